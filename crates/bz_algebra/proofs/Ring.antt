@@ -1,9 +1,9 @@
 -- The ring laws of ℤ and the laws of its order that the kit lacks.
 --     diff p n      p - n, kept folded: each integer is one, and sums, negations and products of two are again one, so that an identity in ℤ becomes an identity of naturals, which omega proves
-use Rattle.std.specs.Prelude.{ℕ, zero, suc, ◌+◌, ◌-◌, ◌*◌, ◌<◌, ◌≤◌, ◌≡◌, ℤ, pos, negsuc, ◌+ℤ◌, ◌-ℤ◌, ◌*ℤ◌, neg_ℤ, ◌≤ℤ◌, ◌<ℤ◌, ◌⊎◌, ◌≢◌, nat_abs}
-use Rattle.std.proofs.Common.{refl, ap, sym, ◌∙◌, arith}
+use Rattle.std.specs.Prelude.{ℕ, suc, ◌+◌, ◌-◌, ◌*◌, ◌≡◌, ℤ, pos, ◌+ℤ◌, ◌-ℤ◌, ◌*ℤ◌, neg_ℤ, ◌≤ℤ◌, ◌<ℤ◌, ◌⊎◌, ◌≢◌, nat_abs}
+use Rattle.std.proofs.Common.{ap, sym, ◌∙◌, arith}
 use Rattle.std.proofs.lemmas.Int.{ints, by_lt_z}
-use Rattle.std.proofs.Math.IntN.{*ℤ_comm, +ℤ_assoc, +ℤ_comm, zero-*ℤ, *ℤ-zero, +ℤ_idl, +ℤ_idr}
+use Rattle.std.proofs.Math.IntN.{*ℤ_comm, zero-*ℤ, *ℤ-zero, +ℤ_idl, +ℤ_idr}
 use Rattle.std.proofs.Common.{inl, inr}
 use borrow.Author.Differences.{up, down, product_is}
 
@@ -43,15 +43,15 @@ diff_mul p n q m =
 -- ---- the ring
 -- named so as the kit's +ℤ_assoc, +ℤ_comm and *ℤ_comm are
 pub *ℤ_assoc : (a b c : ℤ) → (a *ℤ b) *ℤ c ≡ a *ℤ (b *ℤ c)
-*ℤ_assoc a b c = rw (as_diff a, as_diff b, as_diff c) (simp (diff_add, diff_neg, diff_mul) (diff_same _ _ _ _ (omega arith)))
+*ℤ_assoc a b c = rw (as_diff a, as_diff b, as_diff c) (simp diff_mul (diff_same _ _ _ _ (omega arith)))
 
 -- a (b + c) = a b + a c
 pub mul_add : (a b c : ℤ) → a *ℤ (b +ℤ c) ≡ (a *ℤ b) +ℤ (a *ℤ c)
-mul_add a b c = rw (as_diff a, as_diff b, as_diff c) (simp (diff_add, diff_neg, diff_mul) (diff_same _ _ _ _ (omega arith)))
+mul_add a b c = rw (as_diff a, as_diff b, as_diff c) (simp (diff_add, diff_mul) (diff_same _ _ _ _ (omega arith)))
 
 -- (a + b) c = a c + b c
 pub add_mul : (a b c : ℤ) → (a +ℤ b) *ℤ c ≡ (a *ℤ c) +ℤ (b *ℤ c)
-add_mul a b c = rw (as_diff a, as_diff b, as_diff c) (simp (diff_add, diff_neg, diff_mul) (diff_same _ _ _ _ (omega arith)))
+add_mul a b c = rw (as_diff a, as_diff b, as_diff c) (simp (diff_add, diff_mul) (diff_same _ _ _ _ (omega arith)))
 
 -- a (b - c) = a b - a c
 pub mul_sub : (a b c : ℤ) → a *ℤ (b -ℤ c) ≡ (a *ℤ b) -ℤ (a *ℤ c)
@@ -62,10 +62,10 @@ pub sub_mul : (a b c : ℤ) → (a -ℤ b) *ℤ c ≡ (a *ℤ c) -ℤ (b *ℤ c)
 sub_mul a b c = rw (as_diff a, as_diff b, as_diff c) (simp (diff_add, diff_neg, diff_mul) (diff_same _ _ _ _ (omega arith)))
 
 pub mul_neg : (a b : ℤ) → a *ℤ neg_ℤ b ≡ neg_ℤ (a *ℤ b)
-mul_neg a b = rw (as_diff a, as_diff b) (simp (diff_add, diff_neg, diff_mul) (diff_same _ _ _ _ (omega arith)))
+mul_neg a b = rw (as_diff a, as_diff b) (simp (diff_neg, diff_mul) (diff_same _ _ _ _ (omega arith)))
 
 pub neg_mul : (a b : ℤ) → neg_ℤ a *ℤ b ≡ neg_ℤ (a *ℤ b)
-neg_mul a b = rw (as_diff a, as_diff b) (simp (diff_add, diff_neg, diff_mul) (diff_same _ _ _ _ (omega arith)))
+neg_mul a b = rw (as_diff a, as_diff b) (simp (diff_neg, diff_mul) (diff_same _ _ _ _ (omega arith)))
 
 pub neg_neg : (a : ℤ) → neg_ℤ (neg_ℤ a) ≡ a
 neg_neg a = omega (arith, ints)
