@@ -1,9 +1,14 @@
 //! Rows of whole numbers of which most are zero.
-ghost use Rattle.std.specs.Prelude.{◌≡◌, List, ℤ, ℕ};
+ghost use Rattle.std.specs.Prelude.{◌≡◌, IfOk, List, ℤ, ℕ};
+ghost use Rattle.bz_algebra.specs.Sums.{coef};
+ghost use Rattle.bz_num.specs.Row.{IsSparse};
 
+use crate::memory::OutOfMemory;
+use std::alloc::Global;
 use std::marker::Model;
 
-/// Pairs of a column and its number, columns rising, no number zero.
+/// Pairs of a column and its number: columns rise, and no number is zero or wide.
+/// Contracts see the list of the pairs.
 #[derive(Drop)]
 pub struct SparseRow {
     entries: Vec<(u32, i128)>,
@@ -11,7 +16,45 @@ pub struct SparseRow {
 
 impl Model for SparseRow {
     ghost use Rattle.std.specs.Prelude.{List, ℤ, ℕ};
+    ghost use Rattle.bz_num.specs.Row.{IsSparse};
     ghost Value = { List (ℕ × ℤ) };
 
     ghost view = { λ r. r.entries.items };
+
+    ghost invariant = { λ r. IsSparse r.entries.items };
+}
+
+impl SparseRow {
+    /// The row of these pairs. It takes memory for them.
+    pub fn from_pairs(alloc: Global, pairs: &[(u32, i128)]) -> Result<Self, OutOfMemory>
+        requires { IsSparse pairs.now }
+        ensures { IfOk result (λ row. row ≡ pairs.now) }
+    {
+        let entries = Vec::from_slice(alloc, pairs)?;
+        Ok(SparseRow { entries })
+    }
+
+    /// The row of these pairs. It takes no memory.
+    pub fn from_vec(entries: Vec<(u32, i128)>) -> Self
+        requires { IsSparse entries.items }
+        ensures { result ≡ entries.items }
+    {
+        SparseRow { entries }
+    }
+
+    /// A row of the same pairs. It takes memory for them.
+    pub fn copy(&self, alloc: Global) -> Result<Self, OutOfMemory>
+        ensures { IfOk result (λ row. row ≡ self.now) }
+    {
+        let entries = Vec::from_slice(alloc, self.entries.as_slice())?;
+        Ok(SparseRow { entries })
+    }
+
+    /// The pairs, in order. It takes no memory.
+    pub fn as_slice(&self) -> &[(u32, i128)]
+        ensures value { result.now ≡ self.now }
+        ensures sparse { IsSparse self.now }
+    {
+        self.entries.as_slice()
+    }
 }
