@@ -1,0 +1,5 @@
+pub mod Boxes
+pub mod Certificates
+pub mod Cuts
+pub mod Leaves
+pub mod Rows
