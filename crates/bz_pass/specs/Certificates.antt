@@ -13,15 +13,11 @@ use Rattle.bz_model.specs.declared.Parts.{Parts}
 use Rattle.bz_model.specs.Parting.{blocks_of, width_of, column_at, position_of, terms_in, inequalities_of, integers_of, inner_cost}
 use Rattle.bz_model.specs.Points.{coordinate, IsWhole}
 use Rattle.bz_pass.specs.Boxes.{Box, IsRootBox}
-use Rattle.bz_pass.specs.Cuts.{Cut, IsValid}
-use Rattle.bz_pass.specs.Leaves.{Leaf, LeafHolds}
-
--- a certificate whose tree is one leaf
-pub record Certificate : Type 0 where
-  pub parts : Parts
-  pub value : ℤ
-  pub cuts : List Cut
-  pub tree : Leaf
+use Rattle.bz_pass.specs.Cuts.{IsValid}
+use Rattle.bz_pass.specs.Leaves.{LeafHolds}
+use Rattle.bz_pass.specs.declared.records.Certificate.{Certificate}
+use Rattle.bz_pass.specs.declared.records.Cut.{Cut}
+use Rattle.bz_pass.specs.declared.records.Leaf.{Leaf}
 
 -- the eta of a block
 abbrev pub eta_of : Master → ℕ → ℤ

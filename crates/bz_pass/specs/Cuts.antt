@@ -1,18 +1,11 @@
 -- Cuts: `alpha x - p0 eta <= beta`, with eta the cost of the cut's block, each with the multipliers that it comes from.
-use Rattle.std.specs.Prelude.{ℕ, ℤ, pos, ◌≡◌, ◌*ℤ◌, ◌<◌, ◌≤◌, ◌<ℤ◌, ◌≤ℤ◌, List, length}
+use Rattle.std.specs.Prelude.{ℕ, pos, ◌≡◌, ◌*ℤ◌, ◌<◌, ◌≤◌, ◌<ℤ◌, ◌≤ℤ◌, List, length}
 use Rattle.std.proofs.Math.IntN.{neg_ℤ}
 use Rattle.bz_algebra.specs.Sums.{dot, coef, AllBelow}
 use Rattle.bz_model.specs.declared.Model.{Model}
 use Rattle.bz_model.specs.Parting.{blocks_of, width_of, terms_in, inequalities_of, inner_cost}
+use Rattle.bz_pass.specs.declared.records.Cut.{Cut}
 use Rattle.bz_pass.specs.Rows.{own_at, master_at, rhs_at, AreMultipliers}
-
-pub record Cut : Type 0 where
-  pub block : ℕ
-  pub mu : List (ℕ × ℤ)
-  pub gcd : ℤ
-  pub alpha : List (ℕ × ℤ)
-  pub p0 : ℤ
-  pub beta : ℤ
 
 -- The cut is `gcd` times smaller than the mu-sum of its block's inequalities, in which the block's own terms come to
 -- -p0 times its inner cost.

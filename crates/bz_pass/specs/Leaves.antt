@@ -1,6 +1,6 @@
 -- Leaves: multipliers of the inequalities that hold in a box, which bound the inner cost there from below or show that
 -- the box has no feasible point.
-use Rattle.std.specs.Prelude.{ℕ, ℤ, pos, negsuc, ◌≡◌, ◌-◌, ◌*ℤ◌, ◌<◌, ◌<ℤ◌, ◌≤ℤ◌, List, [], ◌∷◌, ◌++◌, length, map}
+use Rattle.std.specs.Prelude.{ℕ, pos, negsuc, ◌≡◌, ◌-◌, ◌*ℤ◌, ◌<◌, ◌<ℤ◌, ◌≤ℤ◌, List, [], ◌∷◌, ◌++◌, length, map}
 use Rattle.std.specs.List.{enumerate_from, flat_map}
 use Rattle.std.proofs.Math.IntN.{neg_ℤ}
 use Rattle.bz_algebra.specs.Sums.{dot, coef}
@@ -10,13 +10,9 @@ use Rattle.bz_model.specs.declared.Model.{Model}
 use Rattle.bz_model.specs.Parting.{blocks_of, width_of, position_of, terms_in, inequalities_of, integers_of, inner_cost}
 use Rattle.bz_model.specs.Points.{coordinate}
 use Rattle.bz_pass.specs.Boxes.{Box}
-use Rattle.bz_pass.specs.Cuts.{Cut}
+use Rattle.bz_pass.specs.declared.records.Cut.{Cut}
+use Rattle.bz_pass.specs.declared.records.Leaf.{Leaf}
 use Rattle.bz_pass.specs.Rows.{own_at, master_at, rhs_at, AreMultipliers}
-
-pub record Leaf : Type 0 where
-  pub lambda : List (ℕ × ℤ)
-  pub delta : ℤ
-  pub bound : ℤ
 
 -- In the sides of a leaf `own` speaks of the etas, that of block b at place b - 1, and `master` of the master's
 -- positions.

@@ -1,5 +1,8 @@
-//! What it is for a certificate to pass, and the law that a passing certificate proves its optimum.
+//! Certificates of an optimum, what it is for one to pass, and the law that a passing certificate proves its optimum.
 //!
-//! This crate knows no text and no search. Its definitions stand over the records of `bz_model` and over records of
-//! its own for cuts, boxes, leaves and certificates.
+//! This crate knows no text and no search.
 #![tactic(auto)]
+
+mod records;
+
+pub use records::{Certificate, Cut, Leaf};
