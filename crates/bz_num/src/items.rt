@@ -11,6 +11,7 @@ pub struct Items<T> {
 
 impl<T> Model for Items<T> {
     ghost use Rattle.std.specs.Prelude.{List};
+
     ghost Value = { List T };
 
     ghost view = { λ l. l.items.items };
@@ -40,6 +41,7 @@ pub struct Name {
 
 impl Model for Name {
     ghost use Rattle.std.specs.Prelude.{List, ℕ};
+
     ghost Value = { List ℕ };
 
     ghost view = { λ n. n.bytes.items };

@@ -4,9 +4,13 @@
 mod fraction;
 mod items;
 mod memory;
+mod narrow;
+mod products;
 mod row;
 
 pub use fraction::Frac;
 pub use items::{Items, Name};
 pub use memory::OutOfMemory;
+pub use narrow::{narrow_difference, narrow_negation, narrow_product, narrow_sum};
+pub use products::{Folding, WideSum, fold};
 pub use row::SparseRow;

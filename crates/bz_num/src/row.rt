@@ -17,6 +17,7 @@ pub struct SparseRow {
 impl Model for SparseRow {
     ghost use Rattle.std.specs.Prelude.{List, ℤ, ℕ};
     ghost use Rattle.bz_num.specs.Row.{IsSparse};
+
     ghost Value = { List (ℕ × ℤ) };
 
     ghost view = { λ r. r.entries.items };
@@ -56,5 +57,19 @@ impl SparseRow {
         ensures sparse { IsSparse self.now }
     {
         self.entries.as_slice()
+    }
+
+    /// The number at the column, 0 where the row has none there. It takes no memory.
+    pub fn at(&self, column: u32) -> i128
+        ensures { result ≡ coef self.now column }
+    {
+        match self
+            .entries
+            .as_slice()
+            .binary_search_by_key(&column, |entry| entry.0)
+        {
+            Ok(place) => self.entries[place].1,
+            Err(_) => 0,
+        }
     }
 }
