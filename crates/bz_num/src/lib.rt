@@ -1,6 +1,7 @@
 //! Whole numbers, fractions, sparse rows and sums of products within 127 bits.
 #![tactic(auto)]
 
+mod divisor;
 mod fraction;
 mod items;
 mod memory;
@@ -8,6 +9,7 @@ mod narrow;
 mod products;
 mod row;
 
+pub use divisor::gcd;
 pub use fraction::Frac;
 pub use items::{Items, Name};
 pub use memory::OutOfMemory;

@@ -1,0 +1,23 @@
+//! Greatest common divisors.
+ghost use Rattle.std.specs.Prelude.{◌≡◌, pos, ◌≤ℤ◌};
+ghost use Rattle.std.specs.Int.{IsGcd};
+ghost use Rattle.std.specs.Int.RustNames.{unsigned_abs};
+ghost use Rattle.bz_algebra.specs.Numbers.{IsNarrow};
+
+/// The greatest common divisor of two numbers, 0 for two zeros. It takes no memory.
+pub fn gcd(a: i128, b: i128) -> i128
+    requires left { IsNarrow a }
+    requires right { IsNarrow b }
+    ensures divides { IsGcd (unsigned_abs a) (unsigned_abs b) (unsigned_abs result) }
+    ensures sign { pos 0 ≤ℤ result }
+    ensures narrow { IsNarrow result }
+{
+    let mut x = a.unsigned_abs();
+    let mut y = b.unsigned_abs();
+    while y != 0 {
+        let rest = x % y;
+        x = y;
+        y = rest;
+    }
+    x as i128
+}
