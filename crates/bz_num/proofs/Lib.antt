@@ -1,3 +1,4 @@
 pub mod Divisors
 pub mod Folds
+pub mod Reduces
 pub mod Rows

@@ -7,6 +7,7 @@ mod items;
 mod memory;
 mod narrow;
 mod products;
+mod reduce;
 mod row;
 
 pub use divisor::gcd;
@@ -15,4 +16,5 @@ pub use items::{Items, Name};
 pub use memory::OutOfMemory;
 pub use narrow::{narrow_difference, narrow_negation, narrow_product, narrow_sum};
 pub use products::{Folding, WideSum, fold};
+pub use reduce::primitive;
 pub use row::SparseRow;

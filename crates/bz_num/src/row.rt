@@ -1,6 +1,8 @@
 //! Rows of whole numbers of which most are zero.
-ghost use Rattle.std.specs.Prelude.{◌≡◌, IfOk, List, ℤ, ℕ};
+ghost use Rattle.std.specs.Prelude.{◌≡◌, IfOk, pos, ◌<ℤ◌};
+ghost use Rattle.std.specs.Int.RustNames.{unsigned_abs};
 ghost use Rattle.bz_algebra.specs.Sums.{coef};
+ghost use Rattle.bz_num.specs.Primitive.{DividesAll, times_entries};
 ghost use Rattle.bz_num.specs.Row.{IsSparse};
 
 use crate::memory::OutOfMemory;
@@ -71,5 +73,25 @@ impl SparseRow {
             Ok(place) => self.entries[place].1,
             Err(_) => 0,
         }
+    }
+
+    /// Divides each number by a common divisor. It takes no memory.
+    pub fn divide_by(&mut self, divisor: i128)
+        requires positive { pos 0 <ℤ divisor }
+        requires common { DividesAll (unsigned_abs divisor) self.old }
+        ensures { self.old ≡ times_entries divisor self.new }
+    {
+        divide_all(self.entries.as_mut_slice(), divisor);
+    }
+}
+
+// Divides each number of the entries by a common divisor.
+fn divide_all(entries: &mut [(u32, i128)], divisor: i128)
+    requires positive { pos 0 <ℤ divisor }
+    requires common { DividesAll (unsigned_abs divisor) entries.old }
+    ensures { entries.old ≡ times_entries divisor entries.new }
+{
+    for entry in entries.iter_mut() {
+        entry.1 /= divisor;
     }
 }

@@ -6,9 +6,9 @@ use Rattle.bz_num.proofs.divisor.gcd.Given as goal
 
 abbrev pub invariant-loop-y : goal.invariant-loop-y
 invariant-loop-y l = record {
-    kept : (g : ℕ) → IsGcd l.x l.y g → IsGcd (unsigned_abs l.fn.a) (unsigned_abs l.fn.b) g;
-    narrow_x : l.x < 2 ^ 127;
-    narrow_y : l.y < 2 ^ 127;
+  kept : (g : ℕ) → IsGcd l.x l.y g → IsGcd (unsigned_abs l.fn.a) (unsigned_abs l.fn.b) g;
+  narrow_x : l.x < 2 ^ 127;
+  narrow_y : l.y < 2 ^ 127;
 }
 
 abbrev pub decreases-loop-y : goal.decreases-loop-y
