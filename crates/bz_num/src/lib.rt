@@ -18,3 +18,6 @@ pub use narrow::{narrow_difference, narrow_negation, narrow_product, narrow_sum}
 pub use products::{Folding, WideSum, fold};
 pub use reduce::primitive;
 pub use row::SparseRow;
+
+#[cfg(test)]
+mod tests;

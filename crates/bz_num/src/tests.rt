@@ -1,0 +1,68 @@
+//! Worked values.
+use crate::{Folding, SparseRow, WideSum, fold, gcd, primitive};
+use std::test::Fail;
+
+const HALF: i128 = 85070591730234615865843651857942052864; // 2^126
+
+const MOST: i128 = 170141183460469231731687303715884105727; // 2^127 - 1
+
+#[test]
+fn folds_in_order(rt: HostRuntime) {
+    assert_eq!(rt; fold(&[]), Ok(0));
+    assert_eq!(rt; fold(&[(3, 5), (-2, 7)]), Ok(1));
+    assert_eq!(rt; fold(&[(HALF, 1), (HALF, 1)]), Err(WideSum { at: 1 }));
+    assert_eq!(rt; fold(&[(HALF, 1), (-HALF, 1), (HALF, 1)]), Ok(HALF));
+    assert_eq!(rt;
+        fold(&[(1, 1), (HALF, 2), (HALF, 4)]),
+        Err(WideSum { at: 1 })
+    );
+    assert_eq!(rt;
+        fold(&[(-HALF, 2)]),
+        Err(WideSum { at: 0 }),
+        "-2^127 is wide"
+    );
+    assert_eq!(rt; fold(&[(MOST, -1), (1, 0)]), Ok(-MOST));
+}
+
+#[test]
+fn a_wide_push_takes_nothing(rt: HostRuntime) {
+    let mut folding = Folding::new();
+    assert_eq!(rt; folding.push(HALF, 1), Ok(()));
+    assert_eq!(rt; folding.push(2, HALF), Err(WideSum { at: 1 }));
+    assert_eq!(rt; folding.push(1, -1), Ok(()));
+    assert_eq!(rt; folding.sum(), HALF - 1);
+}
+
+#[test]
+fn divisors(rt: HostRuntime) {
+    assert_eq!(rt; gcd(0, 0), 0);
+    assert_eq!(rt; gcd(12, -18), 6);
+    assert_eq!(rt; gcd(0, -7), 7);
+    assert_eq!(rt; gcd(-MOST, MOST), MOST);
+    assert_eq!(rt; gcd(MOST, HALF), 1);
+}
+
+#[test]
+fn numbers_at_columns(rt: HostRuntime) -> Result<(), Fail> {
+    let row = SparseRow::from_pairs(rt.alloc(), &[(1, 4), (3, -6), (9, 1)])?;
+    for (column, want) in [(0, 0), (1, 4), (2, 0), (3, -6), (9, 1), (10, 0)] {
+        assert_eq!(rt; row.at(column), want, "at {column}");
+    }
+    let copy = row.copy(rt.alloc())?;
+    assert_eq!(rt; copy.as_slice(), [(1, 4), (3, -6), (9, 1)].as_slice());
+    Ok(())
+}
+
+#[test]
+fn a_row_becomes_primitive(rt: HostRuntime) -> Result<(), Fail> {
+    let mut row = SparseRow::from_pairs(rt.alloc(), &[(0, 4), (2, -6)])?;
+    let mut side = 10;
+    assert_eq!(rt; primitive(&mut row, &mut side), 2);
+    assert_eq!(rt; row.as_slice(), [(0, 2), (2, -3)].as_slice());
+    assert_eq!(rt; side, 5);
+    let mut empty = SparseRow::from_pairs(rt.alloc(), &[])?;
+    let mut zero = 0;
+    assert_eq!(rt; primitive(&mut empty, &mut zero), 0);
+    assert_eq!(rt; zero, 0);
+    Ok(())
+}
