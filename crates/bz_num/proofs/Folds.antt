@@ -1,10 +1,11 @@
 -- Sums of products as a function and as a relation.
-use Rattle.std.proofs.Common.{◌≡◌, refl, sym, ap, subst, ℕ, zero, suc, ◌+◌, ◌<◌, ◌⊎◌, inl, inr, Bool, true, false, cond, List, [], ◌∷◌, length, arith, ℤ, pos, ◌+ℤ◌, ◌*ℤ◌, Result, Ok, Err, MatchBool, IfErr}
+use Rattle.std.proofs.Common.{◌≡◌, refl, sym, ap, subst, ℕ, zero, suc, ◌+◌, ◌<◌, ◌⊎◌, inl, inr, Bool, true, false, cond, List, [], ◌∷◌, ◌++◌, length, arith, ℤ, pos, ◌+ℤ◌, ◌*ℤ◌, Result, Ok, Err, MatchBool, IfErr, ◌∙◌, add-zero}
 use Rattle.std.proofs.lemmas.Int.{ints}
 use Rattle.std.proofs.lemmas.Bool.Decides.{nat_tests}
 use Rattle.bz_algebra.specs.Numbers.{IsWide}
 use Rattle.bz_num.specs.declared.products.WideSum.{WideSum}
-use Rattle.bz_num.specs.Fold.{product_at, partial, products, IsWideAt, IsFirstWide, goes_wide, fold_from, fold_of}
+use Rattle.bz_num.specs.Fold.{product_at, partial, products, IsWideAt, IsFirstWide, goes_wide, fold_from, fold_of, pairs_at}
+use Rattle.bz_algebra.specs.Sums.{dot}
 
 -- what the test tells
 pub goes_wide-cases : (sum : ℤ) (p : ℤ × ℤ) → MatchBool (goes_wide sum p) (IsWide (p.0 *ℤ p.1) ⊎ IsWide (sum +ℤ (p.0 *ℤ p.1))) ((IsWide (p.0 *ℤ p.1) ⊎ IsWide (sum +ℤ (p.0 *ℤ p.1))) → ⊥)
@@ -161,3 +162,33 @@ fold_from-stop at sum p ps wide = rw wide refl
 pub first-from_result : (ps : List (ℤ × ℤ)) (r : Result ℤ WideSum) → r ≡ fold_of ps → IfErr r (λ e. IsFirstWide ps e.at)
 first-from_result ps (Ok s) same = tt
 first-from_result ps (Err e) same = first-from_fold ps e (sym same)
+
+-- the sum of a row's products with what f gives is the row at f
+pub products-pairs_at : (es : List (ℕ × ℤ)) (f : ℕ → ℤ) → products (pairs_at es f) ≡ dot es f
+products-pairs_at [] f = refl
+products-pairs_at (e ∷ es) f = ap (λ (rest : ℤ). (e.1 *ℤ f e.0) +ℤ rest) (products-pairs_at es f)
+
+under-ok : (b : Bool) (x : WideSum) (r whole other : Result ℤ WideSum) (s : ℤ) → cond b (Err x) r ≡ Ok s → (r ≡ Ok s → whole ≡ other) → cond b (Err x) whole ≡ other
+under-ok true x r whole other s h step = absurd cc
+under-ok false x r whole other s h step = step h
+
+-- one list after another, where the first gives a sum
+pub fold_from-append_ok : (at : ℕ) (sum : ℤ) (ps qs : List (ℤ × ℤ)) (s : ℤ) → fold_from at sum ps ≡ Ok s → fold_from at sum (ps ++ qs) ≡ fold_from (at + length ps) s qs
+fold_from-append_ok at sum [] qs s h =
+    let same : sum ≡ s = cc in
+    rw same (rw add-zero refl)
+fold_from-append_ok at sum (p ∷ ps) qs s h =
+    under-ok (goes_wide sum p) (record { at = at }) (fold_from (at + 1) (sum +ℤ (p.0 *ℤ p.1)) ps) _ _ s h (λ rest.
+        let later : fold_from (at + 1) (sum +ℤ (p.0 *ℤ p.1)) (ps ++ qs) ≡ fold_from ((at + 1) + length ps) s qs = fold_from-append_ok (at + 1) (sum +ℤ (p.0 *ℤ p.1)) ps qs s rest in
+        let place : (at + 1) + length ps ≡ at + length (p ∷ ps) = omega arith in
+        later ∙ ap (λ (n : ℕ). fold_from n s qs) place)
+
+under-err : (b : Bool) (x e : WideSum) (r whole : Result ℤ WideSum) → cond b (Err x) r ≡ Err e → (r ≡ Err e → whole ≡ Err e) → cond b (Err x) whole ≡ Err e
+under-err true x e r whole h step = h
+under-err false x e r whole h step = step h
+
+-- one list after another, where the first goes wide
+pub fold_from-append_err : (at : ℕ) (sum : ℤ) (ps qs : List (ℤ × ℤ)) (e : WideSum) → fold_from at sum ps ≡ Err e → fold_from at sum (ps ++ qs) ≡ Err e
+fold_from-append_err at sum [] qs e h = absurd cc
+fold_from-append_err at sum (p ∷ ps) qs e h =
+    under-err (goes_wide sum p) (record { at = at }) e (fold_from (at + 1) (sum +ℤ (p.0 *ℤ p.1)) ps) _ h (fold_from-append_err (at + 1) (sum +ℤ (p.0 *ℤ p.1)) ps qs e)

@@ -52,3 +52,8 @@ fold_from at sum (p ∷ ps) =
 -- the sum of the products, or the first wide place
 abbrev pub fold_of : List (ℤ × ℤ) → Result ℤ WideSum
 fold_of ps = fold_from 0 (pos 0) ps
+
+-- the pairs of a row's numbers and of what f gives at their columns
+abbrev pub pairs_at : List (ℕ × ℤ) → (ℕ → ℤ) → List (ℤ × ℤ)
+pairs_at [] f = []
+pairs_at (e ∷ es) f = (e.1, f e.0) ∷ pairs_at es f
