@@ -1,1 +1,3 @@
+pub mod MeetingParts
+pub mod PartSums
 pub mod Positions
