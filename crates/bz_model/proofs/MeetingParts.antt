@@ -1,5 +1,5 @@
 -- A point is feasible exactly where it meets every part.
-use Rattle.std.specs.Prelude.{ℕ, zero, suc, ◌+◌, ◌<◌, ◌≤◌, ◌≡◌, ◌⊎◌, ◌↔◌, Bool, true, false, not, ◌&&◌, cond, eqb, ℤ, pos, ◌+ℤ◌, ◌*ℤ◌, ◌≤ℤ◌, ◌<ℤ◌, neg_ℤ, List, [], ◌∷◌, ◌++◌, length, filter, Option, Some, None, IfSome, ◌==◌}
+use Rattle.std.specs.Prelude.{ℕ, zero, suc, ◌+◌, ◌<◌, ◌≤◌, ◌≡◌, ◌⊎◌, ◌↔◌, Bool, true, false, not, ◌&&◌, cond, eqb, nat_lt, ℤ, pos, ◌+ℤ◌, ◌*ℤ◌, ◌≤ℤ◌, ◌<ℤ◌, neg_ℤ, List, [], ◌∷◌, ◌++◌, length, filter, Option, Some, None, IfSome, ◌==◌}
 use Rattle.std.specs.Bool.{OnTrue}
 use Rattle.std.specs.List.{AllByRecursion, enumerate_from, flat_map}
 use Rattle.std.proofs.Common.{refl, ap, sym, subst, ◌∙◌, arith, inl, inr}
@@ -142,8 +142,11 @@ record IsPlacedRow (part : List ℕ) (row : Row) : Type 0 where
   within : AllBelow (length part) row.terms
   in_one : IsInOneBlock part row.terms
 
-home_within : (part : List ℕ) (es : List (ℕ × ℤ)) → home_of part es ≤ blocks_of part
-home_within part es = ?
+pub home_within : (part : List ℕ) (es : List (ℕ × ℤ)) → home_of part es ≤ blocks_of part
+home_within part [] = omega arith
+home_within part (e ∷ es) = elim (cases_Bool (nat_lt 0 (part_of part e.0))) [
+      inl t ↦ rw t (part_within_blocks part e.0)
+    | inr t ↦ rw t (home_within part es) ]
 
 module _ (m : Model) (part : List ℕ) (p : List ℤ) (q : ℤ) where
   abbrev Holds : ℕ → Ineq → Type 0
@@ -162,3 +165,54 @@ module _ (m : Model) (part : List ℕ) (p : List ℤ) (q : ℤ) where
       (λ b l. all_then _ _ rows (all_from_kept (λ row. AllByRecursion (Holds b) (sides_of_row part b row)) (λ row. home_of part row.terms == b) rows (all_from_flat (Holds b) (sides_of_row part b) _ (k b l)))
       (λ row f e. f (eq-eqb (home_of part row.terms) b e))))
       (λ row f s. (row_sides part (home_of part row.terms) p q row f.within f.in_one).1 s)
+
+  columns_give : (cs : List (ℕ × Column)) (b : ℕ) → AllByRecursion (λ e. e.0 < length part) cs → AllByRecursion (λ e. ColumnHolds e.1 (coordinate p e.0) q) cs → AllByRecursion (Holds b) (flat_map (sides_of_column part b) (filter (λ e. (part_of part e.0 == b) && not e.1.integer) cs))
+  columns_give cs b h k =
+      all_flat (Holds b) (sides_of_column part b) _
+      (all_kept (λ e. AllByRecursion (Holds b) (sides_of_column part b e)) (λ e. (part_of part e.0 == b) && not e.1.integer) cs
+      (all_both _ _ _ cs h k (λ e l c t. (column_sides part b p q e l (eqb-true (part_of part e.0) b (and_parts (part_of part e.0 == b) (not e.1.integer) t).0)).0 c.bounds)))
+
+  -- the bounds of the columns that are no integers
+  give_bounds : (cs : List (ℕ × Column)) → AllByRecursion (λ e. e.0 < length part) cs → ((b : ℕ) → b ≤ blocks_of part → AllByRecursion (Holds b) (flat_map (sides_of_column part b) (filter (λ e. (part_of part e.0 == b) && not e.1.integer) cs))) → AllByRecursion (λ e. e.1.integer ≡ false → IsWithinBounds e.1.lower e.1.upper (coordinate p e.0) q) cs
+  give_bounds cs h k =
+      all_both _ _ _ cs h
+      (all_at_home (λ b e. e.1.integer ≡ false → AllByRecursion (Holds b) (sides_of_column part b e)) (λ e. part_of part e.0) (blocks_of part) cs (λ e. part_within_blocks part e.0)
+      (λ b l. all_then _ _ cs (all_from_kept (λ e. AllByRecursion (Holds b) (sides_of_column part b e)) (λ e. (part_of part e.0 == b) && not e.1.integer) cs (all_from_flat (Holds b) (sides_of_column part b) _ (k b l)))
+      (λ e f g i. f (and_from (part_of part e.0 == b) (not e.1.integer) (eq-eqb (part_of part e.0) b g) (not_from_false e.1.integer i)))))
+      (λ e l s i. (column_sides part (part_of part e.0) p q e l refl).1 (s i))
+
+  -- a column of each kind
+  give_columns : (cs : List (ℕ × Column)) → AllByRecursion (λ e. e.1.integer ≡ false → IsWithinBounds e.1.lower e.1.upper (coordinate p e.0) q) cs → AllByRecursion (λ e. IsWithinBounds e.1.lower e.1.upper (coordinate p e.0) q) (filter (λ e. e.1.integer) cs) → AllByRecursion (λ e. IsWhole (coordinate p e.0) q) (filter (λ e. e.1.integer) cs) → AllByRecursion (λ e. ColumnHolds e.1 (coordinate p e.0) q) cs
+  give_columns cs h k w =
+      all_both _ _ _ cs h
+      (all_both _ _ (λ e. e.1.integer ≡ true → IsWithinBounds e.1.lower e.1.upper (coordinate p e.0) q × IsWhole (coordinate p e.0) q) cs (all_from_kept (λ e. IsWithinBounds e.1.lower e.1.upper (coordinate p e.0) q) (λ e. e.1.integer) cs k) (all_from_kept (λ e. IsWhole (coordinate p e.0) q) (λ e. e.1.integer) cs w) (λ e f g i. (f i, g i)))
+      (λ e f g. record {
+        bounds = elim (cases_Bool e.1.integer) [ inl i ↦ (g i).0 | inr i ↦ f i ];
+        integer = OnTrue_from e.1.integer (IsWhole (coordinate p e.0) q) (λ i. (g i).1) })
+
+-- each row of a model that is parted has its place
+placed_rows : (m : Model) (part : List ℕ) → HasItsColumns m → length part ≡ length m.columns → AllByRecursion (λ row. IsInOneBlock part row.terms) m.rows → AllByRecursion (IsPlacedRow part) m.rows
+placed_rows m part h n o = all_both _ _ _ m.rows h.rows o (λ row w i. record { within = rw n w; in_one = i })
+
+pub feasible_meets : (m : Model) (part : List ℕ) (p : List ℤ) (q : ℤ) → HasItsColumns m → IsPartition m part → AllByRecursion (λ row. IsInOneBlock part row.terms) m.rows → IsFeasible m p q → MeetsAllParts m part p q
+feasible_meets m part p q h s o f = record {
+    positive = f.positive;
+    numbers = f.numbers;
+    inequalities = λ b l. all_append _ (flat_map (sides_of_row part b) (rows_in m part b)) (flat_map (sides_of_column part b) (continuous_in m part b))
+        (rows_give m part p q m.rows b (placed_rows m part h s.numbers o) f.rows)
+        (columns_give m part p q (enumerate_from 0 m.columns) b (numbers_within 0 (length part) m.columns (omega (arith, s.numbers))) f.columns);
+    bounds = all_kept _ _ (enumerate_from 0 m.columns) (all_then _ _ _ f.columns (λ e c i. c.bounds));
+    whole = all_kept _ _ (enumerate_from 0 m.columns) (all_then _ _ _ f.columns (λ e c i. OnTrue_at i c.integer)) }
+
+pub meeting_is_feasible : (m : Model) (part : List ℕ) (p : List ℤ) (q : ℤ) → HasItsColumns m → IsPartition m part → AllByRecursion (λ row. IsInOneBlock part row.terms) m.rows → MeetsAllParts m part p q → IsFeasible m p q
+meeting_is_feasible m part p q h s o f = record {
+    positive = f.positive;
+    numbers = f.numbers;
+    rows = give_rows m part p q m.rows (placed_rows m part h s.numbers o) (λ b l. all_front _ (flat_map (sides_of_row part b) (rows_in m part b)) (flat_map (sides_of_column part b) (continuous_in m part b)) (f.inequalities b l));
+    columns = give_columns m part p q (enumerate_from 0 m.columns)
+        (give_bounds m part p q (enumerate_from 0 m.columns) (numbers_within 0 (length part) m.columns (omega (arith, s.numbers))) (λ b l. all_back _ (flat_map (sides_of_row part b) (rows_in m part b)) (flat_map (sides_of_column part b) (continuous_in m part b)) (f.inequalities b l)))
+        f.bounds f.whole }
+
+-- a point is feasible exactly where it meets every part
+pub feasible_is_meeting : (m : Model) (part : List ℕ) (p : List ℤ) (q : ℤ) → HasItsColumns m → IsPartition m part → AllByRecursion (λ row. IsInOneBlock part row.terms) m.rows → IsFeasible m p q ↔ MeetsAllParts m part p q
+feasible_is_meeting m part p q h s o = (feasible_meets m part p q h s o, meeting_is_feasible m part p q h s o)
