@@ -1,6 +1,7 @@
 //! Mixed-integer linear models, their decompositions into a master and blocks, and the inequalities of each part.
 #![tactic(auto)]
 
+mod growing;
 mod laws;
 mod parts;
 mod records;
