@@ -1,3 +1,4 @@
+pub mod Meeting
 pub mod Parting
 pub mod Points
 pub mod Strict

@@ -1,8 +1,11 @@
 //! Mixed-integer linear models, their decompositions into a master and blocks, and the inequalities of each part.
 #![tactic(auto)]
 
-mod records;
+mod growing;
+mod laws;
 mod parts;
+mod records;
 
-pub use records::{Column, Ineq, Model, Row};
+pub use laws::feasible_is_meeting_all_parts;
 pub use parts::{BlockPart, Master, Parts};
+pub use records::{Column, Ineq, Model, Row};

@@ -1,0 +1,4 @@
+pub mod Inequalities
+pub mod MeetingParts
+pub mod PartSums
+pub mod Positions
