@@ -1,3 +1,5 @@
+pub mod Bounded
+pub mod Dependence
 pub mod Duality
 pub mod Ring
 pub mod SumLemmas

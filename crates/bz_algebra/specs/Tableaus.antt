@@ -1,0 +1,106 @@
+-- Tableaus of linear programs over the whole numbers, by vectors alone: no matrix, no determinant, no fraction.
+--
+-- A program's rows become equations, each with a slack column of its own. The objective is one more row, the last, and its slack is called the factor column: a combination of all rows has there the number by which it takes the cost. So the objective row of a basis is the row of one more place, whose column is the factor column, and no law has to be said twice.
+--
+-- Columns, by number:
+--     0 up to slack - 1      the program's own columns, and the column s behind them where the program is relaxed
+--     slack + i      the slack of row i; slack + rows - 1 is the factor column, where the last row is the objective
+--     slack + rows      the right side
+-- A vector is a function from these numbers; what it gives past the right side is of no account. A basis is a function from places to columns: place i below rows has the column `basis i`.
+use Rattle.std.specs.Prelude.{ℕ, suc, ◌+◌, ◌<◌, ◌≤◌, ℤ, pos, negsuc, ◌-ℤ◌, ◌*ℤ◌, ◌<ℤ◌, ◌≡◌, ◌≢◌, ◌==◌, ◌&&◌, if◌then◌else◌, Bool, unsigned_abs}
+use Rattle.std.specs.Int.{◌∣◌}
+use Rattle.bz_algebra.specs.Sums.{upto}
+
+-- ---- the equations of a program
+
+-- minimise `cost z` over z >= 0 with `term i z <= rhs i` in each row i
+pub record Program : Type 0 where
+  -- how many columns z has, and how many rows there are
+  pub columns : ℕ
+  pub rows : ℕ
+  -- the coefficient by row and column
+  pub term : ℕ → ℕ → ℤ
+  -- the right side of a row
+  pub rhs : ℕ → ℤ
+  -- the cost of a column
+  pub cost : ℕ → ℤ
+
+-- rows with a slack column each
+pub record Equations : Type 0 where
+  -- how many rows, the objective among them
+  pub rows : ℕ
+  -- the number of the first slack: how many columns stand before the slacks
+  pub slack : ℕ
+  -- the entry of a row in a column before the slacks
+  pub entry : ℕ → ℕ → ℤ
+  -- the right side of a row
+  pub right : ℕ → ℤ
+
+-- the number of the right side, one past the last column
+abbrev pub side : Equations → ℕ
+side s = s.slack + s.rows
+
+-- the entry of a row of the program; a relaxed one has -1 in the column s
+abbrev pub row_entry : Bool → Program → ℕ → ℕ → ℤ
+row_entry relaxed p i j = if relaxed && j == p.columns then negsuc 0 else p.term i j
+
+-- the entry of the objective: the cost, or where the program is relaxed 1 in the column s and 0 elsewhere
+abbrev pub objective_entry : Bool → Program → ℕ → ℤ
+objective_entry relaxed p j = if relaxed then (if j == p.columns then pos 1 else pos 0) else p.cost j
+
+-- the program's rows, then its objective with right side 0; a relaxed program has the column s behind its own columns
+abbrev pub equations_of : Bool → Program → Equations
+equations_of relaxed p = record {
+  rows = suc p.rows;
+  slack = if relaxed then suc p.columns else p.columns;
+  entry = λ i j. if i == p.rows then objective_entry relaxed p j else row_entry relaxed p i j;
+  right = λ i. if i == p.rows then pos 0 else p.rhs i;
+}
+
+-- ---- rows of a basis
+
+-- v is a sum of multiples of the rows: row i is taken as often as v's entry in the slack of row i says
+pub record IsCombination (s : Equations) (v : ℕ → ℤ) : Type 0 where
+  pub columns : (j : ℕ) → j < s.slack → v j ≡ upto s.rows (λ i. v (s.slack + i) *ℤ s.entry i j)
+  pub right : v (side s) ≡ upto s.rows (λ i. v (s.slack + i) *ℤ s.right i)
+
+-- v has no common divisor but 1, its right side counted
+abbrev pub IsPrimitive : Equations → (ℕ → ℤ) → Type 0
+IsPrimitive s v = (d : ℕ) → ((j : ℕ) → j ≤ side s → d ∣ unsigned_abs (v j)) → d ≡ 1
+
+-- v is the row at place i of the basis: a primitive combination that is positive in the column of that place and 0 in the columns of the others
+pub record IsRow (s : Equations) (basis : ℕ → ℕ) (i : ℕ) (v : ℕ → ℤ) : Type 0 where
+  pub combination : IsCombination s v
+  pub primitive : IsPrimitive s v
+  pub positive : (pos 0) <ℤ (v (basis i))
+  pub cleared : (k : ℕ) → k < s.rows → k ≢ i → v (basis k) ≡ pos 0
+
+-- the places have different columns, none of them the right side
+pub record AreColumns (s : Equations) (basis : ℕ → ℕ) : Type 0 where
+  pub in_range : (i : ℕ) → i < s.rows → basis i < side s
+  pub different : (i k : ℕ) → i < s.rows → k < s.rows → basis i ≡ basis k → i ≡ k
+
+-- the tableau of a basis: each place's row
+pub record IsTableau (s : Equations) (basis : ℕ → ℕ) (w : ℕ → ℕ → ℤ) : Type 0 where
+  pub columns : AreColumns s basis
+  pub rows : (i : ℕ) → i < s.rows → IsRow s basis i (w i)
+
+-- a basis: different columns of which each has its row
+pub record IsBasis (s : Equations) (basis : ℕ → ℕ) : Type 0 where
+  pub columns : AreColumns s basis
+  pub has_row : (i : ℕ) → i < s.rows → (v : ℕ → ℤ) × IsRow s basis i v
+
+-- each column of the one basis is a column of the other, at whatever place
+abbrev pub IsWithin : Equations → (ℕ → ℕ) → (ℕ → ℕ) → Type 0
+IsWithin s basis other = (i : ℕ) → i < s.rows → (k : ℕ) × (k < s.rows) × (other k ≡ basis i)
+
+-- ---- the pivot
+
+-- the basis with the column e at place r
+abbrev pub put : (ℕ → ℕ) → ℕ → ℕ → ℕ → ℕ
+put basis r e k = if k == r then e else basis k
+
+-- new is old without its entry in the column e, cleared by the row pivot: times new = kept old - taken pivot
+pub record IsCleared (s : Equations) (old pivot : ℕ → ℤ) (e : ℕ) (new : ℕ → ℤ) (times kept taken : ℤ) : Type 0 where
+  pub clears : kept *ℤ old e ≡ taken *ℤ pivot e
+  pub made : (j : ℕ) → j ≤ side s → times *ℤ new j ≡ (kept *ℤ old j) -ℤ (taken *ℤ pivot j)
