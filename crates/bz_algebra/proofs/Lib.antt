@@ -1,5 +1,7 @@
 pub mod Bounded
+pub mod Combinations
 pub mod Dependence
 pub mod Duality
+pub mod NothingElse
 pub mod Ring
 pub mod SumLemmas
