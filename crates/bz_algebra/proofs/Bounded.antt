@@ -1,7 +1,7 @@
 -- Searches below a bound.
-use Rattle.std.specs.Prelude.{ℕ, zero, suc, ◌<◌, ◌≤◌, ◌≡◌, ◌≢◌, ℤ, pos, ◌⊎◌}
-use Rattle.std.proofs.Common.{sym, subst, arith, inl, inr}
-use Rattle.std.proofs.lemmas.Bool.{cases_eq}
+use Rattle.std.specs.Prelude.{ℕ, zero, suc, ◌<◌, ◌≤◌, ◌≡◌, ◌≢◌, ℤ, pos, ◌⊎◌, cond, eqb}
+use Rattle.std.proofs.Common.{refl, sym, subst, arith, inl, inr}
+use Rattle.std.proofs.lemmas.Bool.{cases_eq, eq-eqb, ne_eqb}
 use Rattle.std.proofs.Math.Decide.{dec_lt}
 use Rattle.bz_algebra.proofs.Ring.{zero_or_not}
 
@@ -28,3 +28,16 @@ all_or_some (suc n) P Q test = elim (all_or_some n P Q test) [ inl h ↦ step h 
 -- all numbers are 0, or one isn't
 pub zeros_or_not : (n : ℕ) (f : ℕ → ℤ) → ((j : ℕ) → j < n → f j ≡ pos 0) ⊎ ((j : ℕ) × (j < n) × (f j ≢ pos 0))
 zeros_or_not n f = all_or_some n (λ j. f j ≡ pos 0) (λ j. f j ≢ pos 0) (λ j. zero_or_not (f j))
+
+-- ---- one more value
+-- f before n, x at n
+pub with_last : {A : Type 0} → ℕ → (ℕ → A) → A → ℕ → A
+with_last n f x i = cond (eqb i n) x (f i)
+
+pub with_last_at : {A : Type 0} (n : ℕ) (f : ℕ → A) (x : A) → with_last n f x n ≡ x
+unfolding with_last
+with_last_at n f x = rw (eq-eqb n n refl)
+
+pub with_last_before : {A : Type 0} (n : ℕ) (f : ℕ → A) (x : A) (i : ℕ) → i < n → with_last n f x i ≡ f i
+unfolding with_last
+with_last_before n f x i b = rw (ne_eqb i n (λ e. omega arith))

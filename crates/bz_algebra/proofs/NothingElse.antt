@@ -1,43 +1,30 @@
 -- A combination that is 0 in the columns of a basis is 0 everywhere.
-use Rattle.std.specs.Prelude.{ℕ, suc, ◌+◌, ◌<◌, ◌≤◌, ◌≡◌, ◌≢◌, ℤ, pos, ◌*ℤ◌, cond, eqb}
-use Rattle.std.proofs.Common.{refl, ap, sym, subst, ◌∙◌, arith}
-use Rattle.std.proofs.lemmas.Bool.{eq-eqb, ne_eqb}
+use Rattle.std.specs.Prelude.{ℕ, suc, ◌+◌, ◌<◌, ◌≤◌, ◌≡◌, ◌≢◌, ℤ, pos, ◌*ℤ◌}
+use Rattle.std.proofs.Common.{ap, sym, subst, ◌∙◌, arith}
 use Rattle.std.proofs.Math.IntN.{*ℤ_comm}
 use Rattle.bz_algebra.specs.Sums.{upto}
 use Rattle.bz_algebra.specs.Tableaus.{Equations, side, IsCombination, IsTableau}
-use Rattle.bz_algebra.proofs.Bounded.{below_suc}
+use Rattle.bz_algebra.proofs.Bounded.{below_suc, with_last, with_last_at, with_last_before}
 use Rattle.bz_algebra.proofs.Combinations.{combination_upto, without_multipliers}
 use Rattle.bz_algebra.proofs.Dependence.{Dependence, dependent}
 use Rattle.bz_algebra.proofs.Ring.{mul_zero, zero_mul, other_zero, positive-ne}
 use Rattle.bz_algebra.proofs.SumLemmas.{upto_only}
 
--- the vectors w before n, then v
-then : ℕ → (ℕ → ℕ → ℤ) → (ℕ → ℤ) → ℕ → ℕ → ℤ
-then n w v i = cond (eqb i n) v (w i)
-
-then_at : (n : ℕ) (w : ℕ → ℕ → ℤ) (v : ℕ → ℤ) → then n w v n ≡ v
-unfolding then
-then_at n w v = rw (eq-eqb n n refl)
-
-then_before : (n : ℕ) (w : ℕ → ℕ → ℤ) (v : ℕ → ℤ) (i : ℕ) → i < n → then n w v i ≡ w i
-unfolding then
-then_before n w v i b = rw (ne_eqb i n (λ e. omega arith))
-
 -- the multipliers of rows and combination depend on each other: what they give in the basis's columns leaves the combination alone
 module _ (s : Equations) (basis : ℕ → ℕ) (w : ℕ → ℕ → ℤ) (t : IsTableau s basis w) (v : ℕ → ℤ) (c : IsCombination s v) (z : (k : ℕ) → k < s.rows → v (basis k) ≡ pos 0) where
   abbrev all : ℕ → ℕ → ℤ
-  all = then s.rows w v
+  all = with_last s.rows w v
 
   all_rows : (i : ℕ) → i < suc s.rows → IsCombination s (all i)
   all_rows = below_suc s.rows (λ i. IsCombination s (all i))
-      (λ i b. subst (IsCombination s) (sym (then_before s.rows w v i b)) ((t.rows i b).combination))
-      (subst (IsCombination s) (sym (then_at s.rows w v)) c)
+      (λ i b. subst (IsCombination s) (sym (with_last_before s.rows w v i b)) ((t.rows i b).combination))
+      (subst (IsCombination s) (sym (with_last_at s.rows w v)) c)
 
   -- in the column of place k the other vectors are 0
   others : (k : ℕ) → k < s.rows → (i : ℕ) → i < suc s.rows → i ≢ k → all i (basis k) ≡ pos 0
   others k b = below_suc s.rows (λ i. i ≢ k → all i (basis k) ≡ pos 0)
-      (λ i l n. ap (λ (u : ℕ → ℤ). u (basis k)) (then_before s.rows w v i l) ∙ (t.rows i l).cleared k b (λ e. n (sym e)))
-      (λ n. ap (λ (u : ℕ → ℤ). u (basis k)) (then_at s.rows w v) ∙ z k b)
+      (λ i l n. ap (λ (u : ℕ → ℤ). u (basis k)) (with_last_before s.rows w v i l) ∙ (t.rows i l).cleared k b (λ e. n (sym e)))
+      (λ n. ap (λ (u : ℕ → ℤ). u (basis k)) (with_last_at s.rows w v) ∙ z k b)
 
   module _ (d : Dependence s.rows (λ i k. all i (s.slack + k))) where
     abbrev total : ℕ → ℤ
@@ -49,7 +36,7 @@ module _ (s : Equations) (basis : ℕ → ℕ) (w : ℕ → ℕ → ℤ) (t : Is
     -- in the column of place k there is only row k
     no_row : (k : ℕ) → k < s.rows → d.times k ≡ pos 0
     no_row k b = other_zero (w k (basis k)) (d.times k) (positive-ne (w k (basis k)) ((t.rows k b).positive))
-        (*ℤ_comm (w k (basis k)) (d.times k) ∙ ap (λ (u : ℕ → ℤ). d.times k *ℤ u (basis k)) (sym (then_before s.rows w v k b))
+        (*ℤ_comm (w k (basis k)) (d.times k) ∙ ap (λ (u : ℕ → ℤ). d.times k *ℤ u (basis k)) (sym (with_last_before s.rows w v k b))
         ∙ sym (upto_only (suc s.rows) k (λ i. d.times i *ℤ all i (basis k)) (omega arith) (λ i l n. ap (λ (u : ℤ). d.times i *ℤ u) (others k b i l n) ∙ mul_zero (d.times i)))
         ∙ nothing (basis k) (omega (arith, t.columns.in_range k b)))
 
@@ -57,7 +44,7 @@ module _ (s : Equations) (basis : ℕ → ℕ) (w : ℕ → ℕ → ℤ) (t : Is
     only_v : (j : ℕ) → total j ≡ d.times s.rows *ℤ v j
     only_v j =
         upto_only (suc s.rows) s.rows (λ i. d.times i *ℤ all i j) (omega arith) (λ i l n. ap (λ (u : ℤ). u *ℤ all i j) (no_row i (omega arith)) ∙ zero_mul (all i j))
-        ∙ ap (λ (u : ℕ → ℤ). d.times s.rows *ℤ u j) (then_at s.rows w v)
+        ∙ ap (λ (u : ℕ → ℤ). d.times s.rows *ℤ u j) (with_last_at s.rows w v)
 
     taken : d.times s.rows ≢ pos 0
     taken e = d.nonzero (below_suc s.rows (λ k. d.times k ≡ pos 0) no_row e d.place d.within)
