@@ -41,3 +41,11 @@ with_last_at n f x = rw (eq-eqb n n refl)
 pub with_last_before : {A : Type 0} (n : ℕ) (f : ℕ → A) (x : A) (i : ℕ) → i < n → with_last n f x i ≡ f i
 unfolding with_last
 with_last_before n f x i b = rw (ne_eqb i n (λ e. omega arith))
+
+-- one function from a value for each index below n
+pub choose : {A : Type 0} (n : ℕ) (a : A) (P : ℕ → A → Type 0) → ((i : ℕ) → i < n → (v : A) × P i v) → (w : ℕ → A) × ((i : ℕ) → i < n → P i (w i))
+choose zero a P h = (λ i. a, λ i b. absurd (omega arith))
+choose {A = A} (suc n) a P h = extend (choose n a P (λ i b. h i (omega arith))) (h n (omega arith))
+  where
+    extend : (w : ℕ → A) × ((i : ℕ) → i < n → P i (w i)) → (v : A) × P n v → (w : ℕ → A) × ((i : ℕ) → i < suc n → P i (w i))
+    extend f v = (with_last n f.0 v.0, below_suc n (λ i. P i (with_last n f.0 v.0 i)) (λ i b. subst (P i) (sym (with_last_before n f.0 v.0 i b)) (f.1 i b)) (subst (P n) (sym (with_last_at n f.0 v.0)) v.1))

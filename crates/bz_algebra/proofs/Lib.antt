@@ -6,3 +6,4 @@ pub mod Duality
 pub mod NothingElse
 pub mod Ring
 pub mod SumLemmas
+pub mod Uniqueness

@@ -100,7 +100,45 @@ IsWithin s basis other = (i : ℕ) → i < s.rows → (k : ℕ) × (k < s.rows) 
 abbrev pub put : (ℕ → ℕ) → ℕ → ℕ → ℕ → ℕ
 put basis r e k = if k == r then e else basis k
 
--- new is old without its entry in the column e, cleared by the row pivot: times new = kept old - taken pivot
+-- new is old cleared in the column e by the row pivot: `times new = kept old - taken pivot`, which is 0 in that column
 pub record IsCleared (s : Equations) (old pivot : ℕ → ℤ) (e : ℕ) (new : ℕ → ℤ) (times kept taken : ℤ) : Type 0 where
   pub clears : kept *ℤ old e ≡ taken *ℤ pivot e
   pub made : (j : ℕ) → j ≤ side s → times *ℤ new j ≡ (kept *ℤ old j) -ℤ (taken *ℤ pivot j)
+
+-- new is old cleared in the column e by the row pivot, made primitive and positive in its own column c
+pub record IsNewRow (s : Equations) (old pivot : ℕ → ℤ) (e c : ℕ) (new : ℕ → ℤ) : Type 0 where
+  pub times : ℤ
+  pub kept : ℤ
+  pub taken : ℤ
+  pub times_nonzero : times ≢ pos 0
+  pub kept_nonzero : kept ≢ pos 0
+  pub cleared : IsCleared s old pivot e new times kept taken
+  pub primitive : IsPrimitive s new
+  pub positive : (pos 0) <ℤ (new c)
+
+-- new is a multiple of old, primitive and positive in the column e: the pivot row with the sign that its new column wants
+pub record IsMoved (s : Equations) (old : ℕ → ℤ) (e : ℕ) (new : ℕ → ℤ) : Type 0 where
+  pub times : ℤ
+  pub kept : ℤ
+  pub times_nonzero : times ≢ pos 0
+  pub kept_nonzero : kept ≢ pos 0
+  pub multiple : (j : ℕ) → j ≤ side s → times *ℤ new j ≡ kept *ℤ old j
+  pub primitive : IsPrimitive s new
+  pub positive : (pos 0) <ℤ (new e)
+
+-- the rows new come from the rows old of the basis by the pivot at place r in the column e
+pub record IsPivot (s : Equations) (basis : ℕ → ℕ) (old : ℕ → ℕ → ℤ) (r e : ℕ) (new : ℕ → ℕ → ℤ) : Type 0 where
+  pub row_in_range : r < s.rows
+  pub column_in_range : e < side s
+  pub entry_nonzero : old r e ≢ pos 0
+  pub others : (i : ℕ) → i < s.rows → i ≢ r → IsNewRow s (old i) (old r) e (basis i) (new i)
+  pub moved : IsMoved s (old r) e (new r)
+
+-- what a pivot made of a row, with positive multipliers: `taken` has the sign of the row's entry in the column where the pivot's entry is positive
+pub record Made (s : Equations) (old pivot : ℕ → ℤ) (e : ℕ) (new : ℕ → ℤ) : Type 0 where
+  pub times : ℤ
+  pub kept : ℤ
+  pub taken : ℤ
+  pub times_positive : (pos 0) <ℤ times
+  pub kept_positive : (pos 0) <ℤ kept
+  pub cleared : IsCleared s old pivot e new times kept taken
