@@ -4,6 +4,7 @@ pub mod Dependence
 pub mod Divisors
 pub mod Duality
 pub mod NothingElse
+pub mod Pivoting
 pub mod Ring
 pub mod SumLemmas
 pub mod Uniqueness
