@@ -1,8 +1,10 @@
 pub mod Bounded
 pub mod Combinations
+pub mod Counting
 pub mod Dependence
 pub mod Divisors
 pub mod Duality
+pub mod Exchange
 pub mod NothingElse
 pub mod Pivoting
 pub mod Ring

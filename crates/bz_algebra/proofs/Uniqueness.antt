@@ -27,7 +27,7 @@ pub tableau_basis : (s : Equations) (basis : ℕ → ℕ) (w : ℕ → ℕ → �
 tableau_basis s basis w t = record { columns = t.columns; has_row = λ i b. (w i, t.rows i b) }
 
 -- the row of a column: the basis may have its columns in another order, so that the column stands at place i here and at place k there
-pub column_row : (s : Equations) (basis other : ℕ → ℕ) (w : ℕ → ℕ → ℤ) (v : ℕ → ℤ) (i k : ℕ) → IsTableau s basis w → IsWithin s basis other → i < s.rows → IsRow s other k v → other k ≡ basis i → (j : ℕ) → j ≤ side s → w i j ≡ v j
+pub column_row : (s : Equations) (basis other : ℕ → ℕ) (w : ℕ → ℕ → ℤ) (v : ℕ → ℤ) (i k : ℕ) → IsTableau s basis w → IsWithin s.rows basis other → i < s.rows → IsRow s other k v → other k ≡ basis i → (j : ℕ) → j ≤ side s → w i j ≡ v j
 column_row s basis other w v i k t within b r e = primitive_equal s (w i) v (v (basis i)) (w i (basis i)) row.primitive r.primitive positive_v row.positive
     (λ j l. equal_of_zero _ _ (nothing_else s basis w t difference (combination_sub s (v (basis i)) (w i (basis i)) (w i) v row.combination r.combination) zeros j l))
   where
@@ -54,5 +54,5 @@ pub row_unique : (s : Equations) (basis : ℕ → ℕ) (w : ℕ → ℕ → ℤ)
 row_unique s basis w v i t b r = column_row s basis basis w v i i t (λ k l. (k, l, refl)) b r refl
 
 -- two tableaus of the same columns have the same row for the same column
-pub same_rows : (s : Equations) (basis other : ℕ → ℕ) (w v : ℕ → ℕ → ℤ) → IsTableau s basis w → IsTableau s other v → IsWithin s basis other → (i k : ℕ) → i < s.rows → k < s.rows → other k ≡ basis i → (j : ℕ) → j ≤ side s → w i j ≡ v k j
+pub same_rows : (s : Equations) (basis other : ℕ → ℕ) (w v : ℕ → ℕ → ℤ) → IsTableau s basis w → IsTableau s other v → IsWithin s.rows basis other → (i k : ℕ) → i < s.rows → k < s.rows → other k ≡ basis i → (j : ℕ) → j ≤ side s → w i j ≡ v k j
 same_rows s basis other w v t u within i k b c e = column_row s basis other w (v k) i k t within b (u.rows k c) e

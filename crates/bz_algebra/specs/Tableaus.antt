@@ -7,7 +7,7 @@
 --     slack + i      the slack of row i; slack + rows - 1 is the factor column, where the last row is the objective
 --     slack + rows      the right side
 -- A vector is a function from these numbers; what it gives past the right side is of no account. A basis is a function from places to columns: place i below rows has the column `basis i`.
-use Rattle.std.specs.Prelude.{ℕ, suc, ◌+◌, ◌<◌, ◌≤◌, ℤ, pos, negsuc, ◌-ℤ◌, ◌*ℤ◌, ◌<ℤ◌, ◌≡◌, ◌≢◌, ◌==◌, ◌&&◌, if◌then◌else◌, Bool, unsigned_abs}
+use Rattle.std.specs.Prelude.{ℕ, suc, ◌+◌, ◌<◌, ◌≤◌, ℤ, pos, negsuc, ◌-ℤ◌, ◌*ℤ◌, ◌<ℤ◌, ◌≡◌, ◌≢◌, ◌==◌, ◌&&◌, if◌then◌else◌, Bool, List, [], ◌∷◌, unsigned_abs}
 use Rattle.std.specs.Int.{◌∣◌}
 use Rattle.bz_algebra.specs.Sums.{upto}
 
@@ -90,9 +90,29 @@ pub record IsBasis (s : Equations) (basis : ℕ → ℕ) : Type 0 where
   pub columns : AreColumns s basis
   pub has_row : (i : ℕ) → i < s.rows → (v : ℕ → ℤ) × IsRow s basis i v
 
--- each column of the one basis is a column of the other, at whatever place
-abbrev pub IsWithin : Equations → (ℕ → ℕ) → (ℕ → ℕ) → Type 0
-IsWithin s basis other = (i : ℕ) → i < s.rows → (k : ℕ) × (k < s.rows) × (other k ≡ basis i)
+-- each column at the first n places of the one basis stands at one of the first n places of the other
+abbrev pub IsWithin : ℕ → (ℕ → ℕ) → (ℕ → ℕ) → Type 0
+IsWithin n basis other = (i : ℕ) → i < n → (k : ℕ) × (k < n) × (other k ≡ basis i)
+
+-- the two have the same columns at their first n places, in whatever order
+pub record AreAlike (n : ℕ) (basis other : ℕ → ℕ) : Type 0 where
+  pub there : IsWithin n basis other
+  pub back : IsWithin n other basis
+
+-- a basis like none of the list, by the columns at the first n places
+abbrev pub IsNew : ℕ → (ℕ → ℕ) → List (ℕ → ℕ) → Type 0
+IsNew n basis [] = Unit {0}
+IsNew n basis (other ∷ others) = (AreAlike n basis other → ⊥) × IsNew n basis others
+
+-- no two of the list have the same columns at the first n places
+abbrev pub NoTwoAlike : ℕ → List (ℕ → ℕ) → Type 0
+NoTwoAlike n [] = Unit {0}
+NoTwoAlike n (basis ∷ others) = IsNew n basis others × NoTwoAlike n others
+
+-- the columns at the first n places of each of the list are below a bound
+abbrev pub AllWithinBound : ℕ → ℕ → List (ℕ → ℕ) → Type 0
+AllWithinBound n bound [] = Unit {0}
+AllWithinBound n bound (basis ∷ others) = ((i : ℕ) → i < n → basis i < bound) × AllWithinBound n bound others
 
 -- ---- the pivot
 
