@@ -1,13 +1,14 @@
 -- The greatest common divisor of a vector as a sum of its multiples, and primitive vectors.
-use Rattle.std.specs.Prelude.{ℕ, zero, suc, ◌*◌, ◌/◌, ◌%◌, ◌<◌, ◌≤◌, ◌≡◌, ◌≢◌, ℤ, pos, negsuc, ◌+ℤ◌, ◌-ℤ◌, ◌*ℤ◌, neg_ℤ, ◌≤ℤ◌, ◌<ℤ◌, unsigned_abs}
+use Rattle.std.specs.Prelude.{ℕ, zero, suc, ◌+◌, ◌*◌, ◌/◌, ◌%◌, ◌<◌, ◌≤◌, ◌≡◌, ◌≢◌, ℤ, pos, negsuc, ◌+ℤ◌, ◌-ℤ◌, ◌*ℤ◌, neg_ℤ, ◌≤ℤ◌, ◌<ℤ◌, unsigned_abs}
 use Rattle.std.specs.Int.{◌∣◌}
 use Rattle.std.proofs.Common.{refl, ap, sym, subst, ◌∙◌, arith}
 use Rattle.std.proofs.lemmas.Int.{ints, unsigned_abs-mul}
 use Rattle.std.proofs.lemmas.Nat.Gcd.{mod-eq-zero_of_dvd}
 use Rattle.std.proofs.Math.Nat.{mod-add-div', mod-lt, div-add-mod, zero-lt-suc, dvd-mul_right, eq-one_of_dvd-one}
 use Rattle.bz_algebra.specs.Sums.{upto}
-use Rattle.bz_algebra.specs.Tableaus.{Equations, side, IsPrimitive}
+use Rattle.bz_algebra.specs.Tableaus.{Equations, side, IsPrimitive, IsCombination}
 use Rattle.bz_algebra.proofs.Bounded.{below_suc, with_last, with_last_at, with_last_before}
+use Rattle.bz_algebra.proofs.Combinations.{each_entry}
 use Rattle.bz_algebra.proofs.Ring.{as_diff, diff_add, diff_neg, diff_mul, diff_same, *ℤ_assoc, neg_mul, mul_neg, mul_left, mul_zero, mul_one, zero_mul, cancel_left, cancel_positive, cancel_lt_left, by_sign, le_antisym, mul_le_left, neg_positive, neg_neg}
 use Rattle.bz_algebra.proofs.SumLemmas.{upto_same, upto_scale}
 
@@ -133,12 +134,12 @@ unfolding part
 part_is d (pos n) h = ap pos (whole d n h)
 part_is d (negsuc n) h = ap (λ (t : ℕ). neg_ℤ (pos t)) (whole d (suc n) h) ∙ sym (mul_neg (pos d) (pos (suc n / d)))
 
+pub divides_multiple : (d : ℕ) (z q : ℤ) → z ≡ pos d *ℤ q → d ∣ unsigned_abs z
+divides_multiple d z q e = rw (e, unsigned_abs-mul (pos d) q) (dvd-mul_right d (unsigned_abs q))
+
 -- the entries up to the right side have a sum of multiples that is 1
 pub primitive_sum : (s : Equations) (v : ℕ → ℤ) → IsPrimitive s v → (y : ℕ → ℤ) × (pos 1 ≡ upto (suc (side s)) (λ j. y j *ℤ v j))
-primitive_sum s v p = let c = common_divisor (suc (side s)) v in (c.times, ap pos (sym (p c.divisor (λ j b. divided c.divisor (v j) (c.quotient j) (c.divides j (omega arith))))) ∙ c.is_sum)
-  where
-    divided : (d : ℕ) (z q : ℤ) → z ≡ pos d *ℤ q → d ∣ unsigned_abs z
-    divided d z q e = rw (e, unsigned_abs-mul (pos d) q) (dvd-mul_right d (unsigned_abs q))
+primitive_sum s v p = let c = common_divisor (suc (side s)) v in (c.times, ap pos (sym (p c.divisor (λ j b. divides_multiple c.divisor (v j) (c.quotient j) (c.divides j (omega arith))))) ∙ c.is_sum)
 
 pub sum_primitive : (s : Equations) (v y : ℕ → ℤ) → pos 1 ≡ upto (suc (side s)) (λ j. y j *ℤ v j) → IsPrimitive s v
 sum_primitive s v y e d h = eq-one_of_dvd-one (rw (ap unsigned_abs once ∙ unsigned_abs-mul (pos d) _) (dvd-mul_right d _))
@@ -214,3 +215,14 @@ primitive_part s v c l n = by_sign (q c)
 
     is_one : pos 1 ≡ upto (suc (side s)) (λ j. d.times j *ℤ q j)
     is_one = cancel_left g (pos 1) _ nonzero (mul_one g ∙ d.is_sum ∙ upto_same (suc (side s)) _ _ (λ j b. ap (λ (t : ℤ). d.times j *ℤ t) (d.divides j b) ∙ mul_left (d.times j) g (q j)) ∙ upto_scale (suc (side s)) g (λ j. d.times j *ℤ q j))
+
+divides_sum : (d n : ℕ) (z : ℤ) (y e : ℕ → ℤ) → ((i : ℕ) → i < n → d ∣ unsigned_abs (y i)) → z ≡ upto n (λ i. y i *ℤ e i) → d ∣ unsigned_abs z
+divides_sum d n z y e h k = divides_multiple d z (upto n (λ i. part d (y i) *ℤ e i))
+    (k ∙ upto_same n _ _ (λ i b. ap (λ (t : ℤ). t *ℤ e i) (part_is d (y i) (h i b)) ∙ *ℤ_assoc (pos d) (part d (y i)) (e i)) ∙ upto_scale n (pos d) (λ i. part d (y i) *ℤ e i))
+
+-- the multipliers of a primitive combination have no common divisor but 1: what divides them divides each entry
+pub multipliers_primitive : (s : Equations) (v : ℕ → ℤ) → IsCombination s v → IsPrimitive s v → (d : ℕ) → ((i : ℕ) → i < s.rows → d ∣ unsigned_abs (v (s.slack + i))) → d ≡ 1
+multipliers_primitive s v c p d h = p d (each_entry s (λ j. d ∣ unsigned_abs (v j))
+    (λ j b. divides_sum d s.rows (v j) (λ i. v (s.slack + i)) (λ i. s.entry i j) h (c.columns j b))
+    h
+    (divides_sum d s.rows (v (side s)) (λ i. v (s.slack + i)) s.right h c.right))

@@ -7,6 +7,7 @@ pub mod Duality
 pub mod Exchange
 pub mod NothingElse
 pub mod Pivoting
+pub mod Programs
 pub mod Ring
 pub mod SumLemmas
 pub mod Uniqueness

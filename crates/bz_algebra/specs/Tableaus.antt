@@ -7,7 +7,7 @@
 --     slack + i      the slack of row i; slack + rows - 1 is the factor column, where the last row is the objective
 --     slack + rows      the right side
 -- A vector is a function from these numbers; what it gives past the right side is of no account. A basis is a function from places to columns: place i below rows has the column `basis i`.
-use Rattle.std.specs.Prelude.{ℕ, suc, ◌+◌, ◌<◌, ◌≤◌, ℤ, pos, negsuc, ◌-ℤ◌, ◌*ℤ◌, ◌<ℤ◌, ◌≡◌, ◌≢◌, ◌==◌, ◌&&◌, if◌then◌else◌, Bool, List, [], ◌∷◌, unsigned_abs}
+use Rattle.std.specs.Prelude.{ℕ, suc, ◌+◌, ◌<◌, ◌≤◌, ℤ, pos, negsuc, ◌+ℤ◌, ◌-ℤ◌, ◌*ℤ◌, ◌<ℤ◌, ◌≡◌, ◌≢◌, ◌==◌, ◌&&◌, if◌then◌else◌, Bool, List, [], ◌∷◌, unsigned_abs}
 use Rattle.std.specs.Int.{◌∣◌}
 use Rattle.bz_algebra.specs.Sums.{upto}
 
@@ -64,6 +64,17 @@ pub record IsCombination (s : Equations) (v : ℕ → ℤ) : Type 0 where
   pub columns : (j : ℕ) → j < s.slack → v j ≡ upto s.rows (λ i. v (s.slack + i) *ℤ s.entry i j)
   pub right : v (side s) ≡ upto s.rows (λ i. v (s.slack + i) *ℤ s.right i)
 
+-- v is row i itself, with 1 in its own slack and 0 in the others
+pub record IsOwnRow (s : Equations) (i : ℕ) (v : ℕ → ℤ) : Type 0 where
+  pub columns : (j : ℕ) → j < s.slack → v j ≡ s.entry i j
+  pub own : v (s.slack + i) ≡ pos 1
+  pub others : (k : ℕ) → k < s.rows → k ≢ i → v (s.slack + k) ≡ pos 0
+  pub right : v (side s) ≡ s.right i
+
+-- the basis of the slacks
+abbrev pub slacks : Equations → ℕ → ℕ
+slacks s i = s.slack + i
+
 -- v has no common divisor but 1, its right side counted
 abbrev pub IsPrimitive : Equations → (ℕ → ℤ) → Type 0
 IsPrimitive s v = (d : ℕ) → ((j : ℕ) → j ≤ side s → d ∣ unsigned_abs (v j)) → d ≡ 1
@@ -113,6 +124,27 @@ NoTwoAlike n (basis ∷ others) = IsNew n basis others × NoTwoAlike n others
 abbrev pub AllWithinBound : ℕ → ℕ → List (ℕ → ℕ) → Type 0
 AllWithinBound n bound [] = Unit {0}
 AllWithinBound n bound (basis ∷ others) = ((i : ℕ) → i < n → basis i < bound) × AllWithinBound n bound others
+
+-- ---- the bases of a program
+
+-- the factor column: the slack of the objective
+abbrev pub factor : Bool → Program → ℕ
+factor relaxed p = (equations_of relaxed p).slack + p.rows
+
+-- a column for each row of the program, and the factor column for the objective
+abbrev pub with_factor : Bool → Program → (ℕ → ℕ) → ℕ → ℕ
+with_factor relaxed p basis i = if i == p.rows then factor relaxed p else basis i
+
+-- the columns at the places of the program's rows are a basis of it
+abbrev pub IsBasisOf : Bool → Program → (ℕ → ℕ) → Type 0
+IsBasisOf relaxed p basis = IsBasis (equations_of relaxed p) (with_factor relaxed p basis)
+
+-- the objective row of a basis in the program's own words: d times the cost plus the rows times y is 0 in each basic column, where a slack has the multiplier of its row; d is positive, and d and y have no common divisor but 1
+pub record IsObjectiveRow (relaxed : Bool) (p : Program) (basis : ℕ → ℕ) (d : ℤ) (y : ℕ → ℤ) : Type 0 where
+  pub positive : (pos 0) <ℤ d
+  pub primitive : (g : ℕ) → g ∣ unsigned_abs d → ((i : ℕ) → i < p.rows → g ∣ unsigned_abs (y i)) → g ≡ 1
+  pub columns : (k : ℕ) → k < p.rows → basis k < (equations_of relaxed p).slack → upto p.rows (λ i. y i *ℤ row_entry relaxed p i (basis k)) +ℤ (d *ℤ objective_entry relaxed p (basis k)) ≡ pos 0
+  pub slacks : (k i : ℕ) → k < p.rows → i < p.rows → basis k ≡ (equations_of relaxed p).slack + i → y i ≡ pos 0
 
 -- ---- the pivot
 
