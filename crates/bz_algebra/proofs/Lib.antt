@@ -1,3 +1,13 @@
+pub mod Bounded
+pub mod Combinations
+pub mod Counting
+pub mod Dependence
+pub mod Divisors
 pub mod Duality
+pub mod Exchange
+pub mod NothingElse
+pub mod Pivoting
+pub mod Programs
 pub mod Ring
 pub mod SumLemmas
+pub mod Uniqueness

@@ -8,22 +8,22 @@ use Rattle.std.proofs.Common.{inl, inr}
 use borrow.Author.Differences.{up, down, product_is}
 
 -- p - n
-diff : ℕ → ℕ → ℤ
+pub diff : ℕ → ℕ → ℤ
 diff p n = pos p -ℤ pos n
 
-as_diff : (z : ℤ) → z ≡ diff (up z) (down z)
+pub as_diff : (z : ℤ) → z ≡ diff (up z) (down z)
 unfolding diff
 as_diff z = omega (arith, ints)
 
-diff_add : (p n q m : ℕ) → diff p n +ℤ diff q m ≡ diff (p + q) (n + m)
+pub diff_add : (p n q m : ℕ) → diff p n +ℤ diff q m ≡ diff (p + q) (n + m)
 unfolding diff
 diff_add p n q m = omega (arith, ints)
 
-diff_neg : (p n : ℕ) → neg_ℤ (diff p n) ≡ diff n p
+pub diff_neg : (p n : ℕ) → neg_ℤ (diff p n) ≡ diff n p
 unfolding diff
 diff_neg p n = omega (arith, ints)
 
-diff_same : (p n q m : ℕ) → p + m ≡ q + n → diff p n ≡ diff q m
+pub diff_same : (p n q m : ℕ) → p + m ≡ q + n → diff p n ≡ diff q m
 unfolding diff
 diff_same p n q m e = omega (arith, ints)
 
@@ -34,7 +34,7 @@ parts p n = omega (arith, ints)
 cross : (a b c d p n q m : ℕ) → a + n ≡ b + p → c + m ≡ d + q → (a * c + b * d) + (p * m + n * q) ≡ (p * q + n * m) + (a * d + b * c)
 cross a b c d p n q m e f = omega (arith, ap (λ (t : ℕ). t * c) e, ap (λ (t : ℕ). t * d) e, ap (λ (t : ℕ). p * t) f, ap (λ (t : ℕ). n * t) f)
 
-diff_mul : (p n q m : ℕ) → diff p n *ℤ diff q m ≡ diff (p * q + n * m) (p * m + n * q)
+pub diff_mul : (p n q m : ℕ) → diff p n *ℤ diff q m ≡ diff (p * q + n * m) (p * m + n * q)
 diff_mul p n q m =
     let a = diff p n in
     let b = diff q m in

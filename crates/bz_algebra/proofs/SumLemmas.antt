@@ -121,40 +121,40 @@ pub coef_append : (es gs : List (ℕ × ℤ)) (j : ℕ) → coef (es ++ gs) j �
 coef_append [] gs j = sym (zero_add (coef gs j))
 coef_append (e ∷ es) gs j = rw (coef_append es gs j) (sym (+ℤ_assoc _ (coef es j) (coef gs j)))
 
--- the number v at the index k and 0 elsewhere
-spike : ℕ → ℤ → ℕ → ℤ
-spike k v j = cond (eqb k j) v (pos 0)
+-- the numbers that are v at the index k and 0 elsewhere
+pub single : ℕ → ℤ → ℕ → ℤ
+single k v j = cond (eqb k j) v (pos 0)
 
-spike_at : (k : ℕ) (v : ℤ) → spike k v k ≡ v
-unfolding spike
-spike_at k v = rw (eq-eqb k k refl)
+pub single_at : (k : ℕ) (v : ℤ) → single k v k ≡ v
+unfolding single
+single_at k v = rw (eq-eqb k k refl)
 
-spike_off : (k : ℕ) (v : ℤ) (j : ℕ) → (k ≡ j → ⊥) → spike k v j ≡ pos 0
-unfolding spike
-spike_off k v j n = rw (ne_eqb k j n)
+pub single_off : (k : ℕ) (v : ℤ) (j : ℕ) → (k ≡ j → ⊥) → single k v j ≡ pos 0
+unfolding single
+single_off k v j n = rw (ne_eqb k j n)
 
-coef_cons : (e : ℕ × ℤ) (es : List (ℕ × ℤ)) (j : ℕ) → coef (e ∷ es) j ≡ spike e.0 e.1 j +ℤ coef es j
-unfolding spike
+pub coef_cons : (e : ℕ × ℤ) (es : List (ℕ × ℤ)) (j : ℕ) → coef (e ∷ es) j ≡ single e.0 e.1 j +ℤ coef es j
+unfolding single
 coef_cons e es j = refl
 
 pub coef_single : (k : ℕ) (v : ℤ) → coef ((k, v) ∷ []) k ≡ v
-coef_single k v = rw (coef_cons (k, v) [] k, spike_at k v) (add_zero v)
+coef_single k v = rw (coef_cons (k, v) [] k, single_at k v) (add_zero v)
 
-spike_sum : (n k : ℕ) (v : ℤ) (f : ℕ → ℤ) → k < n → upto n (λ i. spike k v i *ℤ f i) ≡ v *ℤ f k
-spike_sum n k v f b = upto_only n k _ b (λ i l d. rw (spike_off k v i (λ e. d (sym e))) (zero_mul (f i))) ∙ rw (spike_at k v)
+pub single_sum : (n k : ℕ) (v : ℤ) (f : ℕ → ℤ) → k < n → upto n (λ i. single k v i *ℤ f i) ≡ v *ℤ f k
+single_sum n k v f b = upto_only n k _ b (λ i l d. rw (single_off k v i (λ e. d (sym e))) (zero_mul (f i))) ∙ rw (single_at k v)
 
 -- a sum over a sparse list is the sum over all indexes below a bound of its own
 pub dot_all : (n : ℕ) (es : List (ℕ × ℤ)) (f : ℕ → ℤ) → AllBelow n es → dot es f ≡ upto n (λ i. coef es i *ℤ f i)
 dot_all n [] f b = sym (upto_zeros n _ (λ i l. zero_mul (f i)))
 dot_all n (e ∷ es) f b =
-    rw (dot_all n es f b.1, ← spike_sum n e.0 e.1 f b.0)
-    (sym (upto_add n (λ i. spike e.0 e.1 i *ℤ f i) (λ i. coef es i *ℤ f i))
-    ∙ upto_same n _ _ (λ i l. sym (add_mul (spike e.0 e.1 i) (coef es i) (f i)) ∙ ap (λ (t : ℤ). t *ℤ f i) (sym (coef_cons e es i))))
+    rw (dot_all n es f b.1, ← single_sum n e.0 e.1 f b.0)
+    (sym (upto_add n (λ i. single e.0 e.1 i *ℤ f i) (λ i. coef es i *ℤ f i))
+    ∙ upto_same n _ _ (λ i l. sym (add_mul (single e.0 e.1 i) (coef es i) (f i)) ∙ ap (λ (t : ℤ). t *ℤ f i) (sym (coef_cons e es i))))
 
 -- beyond the indexes the coefficient is 0
 pub coef_beyond : (n : ℕ) (es : List (ℕ × ℤ)) (j : ℕ) → AllBelow n es → n ≤ j → coef es j ≡ pos 0
 coef_beyond n [] j b h = refl
-coef_beyond n (e ∷ es) j b h = rw (coef_cons e es j, spike_off e.0 e.1 j (apart b.0), coef_beyond n es j b.1 h)
+coef_beyond n (e ∷ es) j b h = rw (coef_cons e es j, single_off e.0 e.1 j (apart b.0), coef_beyond n es j b.1 h)
   where
     apart : e.0 < n → e.0 ≡ j → ⊥
     apart l g = omega arith

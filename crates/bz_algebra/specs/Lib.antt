@@ -2,3 +2,4 @@ pub mod Fractions
 pub mod Numbers
 pub mod Sums
 pub mod Systems
+pub mod Tableaus
