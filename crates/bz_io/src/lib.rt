@@ -3,7 +3,12 @@
 #![tactic(auto)]
 
 mod desk;
+mod faults;
+mod mem_desk;
+mod mem_sink;
 mod sink;
 
 pub use desk::{Desk, LoadError, SaveError};
+pub use mem_desk::MemDesk;
+pub use mem_sink::MemSink;
 pub use sink::{PutFailed, Sink, put_all};
