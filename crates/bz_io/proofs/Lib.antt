@@ -1,2 +1,3 @@
 pub mod Takings
 pub mod Texts
+pub mod Untold

@@ -4,3 +4,4 @@ pub mod Desk
 pub mod Sink
 pub mod MemSink
 pub mod MemDesk
+pub mod Reading
