@@ -1,1 +1,3 @@
 pub mod Takings
+pub mod Texts
+pub mod Untold

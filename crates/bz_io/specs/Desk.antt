@@ -1,5 +1,5 @@
 -- What a desk holds, and what a load and a save do.
-use Rattle.std.specs.Prelude.{◌≡◌, ◌≢◌, ◌⊎◌, ℕ, ◌<◌, ◌≤◌, List, length, take, Option, Some, None, IsSomeAnd, Result, Ok, Err}
+use Rattle.std.specs.Prelude.{◌≡◌, ◌≢◌, ◌⊎◌, ℕ, ◌<◌, ◌≤◌, List, length, take, Option, Some, None, IsSomeAnd, MatchBool, Bool, true, false, Result, Ok, Err}
 use Rattle.bz_io.specs.Faults.{HasRisen}
 use Rattle.bz_io.specs.declared.desk.LoadError.{LoadError}
 use Rattle.bz_io.specs.declared.desk.LoadError.TheVariants.{Failed, TooLong, OutOfMemory}
@@ -30,12 +30,16 @@ MayRefuse Failed held name limit = Unit {0}
 MayRefuse TooLong held name limit = HoldsWith held name (λ bytes. limit < length bytes)
 MayRefuse OutOfMemory held name limit = HoldsWith held name (λ bytes. length bytes ≤ limit)
 
+-- a load ended with `Failed`
+abbrev pub is_failed : {T : Type 0} → Result T LoadError → Bool
+is_failed (Ok _) = false
+is_failed (Err Failed) = true
+is_failed (Err TooLong) = false
+is_failed (Err OutOfMemory) = false
+
 -- a load that failed raises the count of faults, and any other leaves it as it was
 abbrev pub CountsLoad : {T : Type 0} → Result T LoadError → ℕ → ℕ → Type 0
-CountsLoad (Ok _) before after = after ≡ before
-CountsLoad (Err Failed) before after = HasRisen before after
-CountsLoad (Err TooLong) before after = after ≡ before
-CountsLoad (Err OutOfMemory) before after = after ≡ before
+CountsLoad result before after = MatchBool (is_failed result) (HasRisen before after) (after ≡ before)
 
 -- the name holds the bytes, and each other name what it held
 pub record Saves (name bytes : List ℕ) (before after : Contents) : Type 0 where

@@ -3,7 +3,17 @@
 #![tactic(auto)]
 
 mod desk;
+mod faults;
+mod host_desk;
+mod host_sink;
+mod mem_desk;
+mod mem_sink;
+mod reading;
 mod sink;
 
 pub use desk::{Desk, LoadError, SaveError};
+pub use host_desk::HostDesk;
+pub use host_sink::HostSink;
+pub use mem_desk::MemDesk;
+pub use mem_sink::MemSink;
 pub use sink::{PutFailed, Sink, put_all};

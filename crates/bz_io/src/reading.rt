@@ -1,0 +1,35 @@
+//! Reading a whole file within a limit.
+ghost use Rattle.std.specs.Prelude.{◌≤◌, length, IfOk};
+ghost use Rattle.bz_io.specs.Reading.{ReadsAll};
+
+use crate::LoadError;
+use std::alloc::Global;
+use std::io::Read;
+
+const CHUNK: usize = 4096;
+
+/// All that the reader has left, if that is at most `limit` bytes. It reads at most `limit` + 1 bytes.
+pub(crate) fn read_within<R: Read>(alloc: Global, from: &mut R, limit: usize) -> Result<Vec<u8>, LoadError>
+    ensures within { IfOk result (λ bytes. length bytes.items ≤ limit) }
+    ensures all { ReadsAll (R.remaining from.old) limit result }
+{
+    let mut bytes = Vec::new(alloc);
+    let mut buffer = [0; CHUNK];
+    'chunks: loop {
+        let room = limit - bytes.len();
+        let piece = &mut buffer[..room.min(CHUNK - 1) + 1];
+        let count = match from.read(piece) {
+            Ok(count) => count,
+            Err(_) => return Err(LoadError::Failed),
+        };
+        if count == 0 {
+            return Ok(bytes);
+        }
+        if count > room {
+            return Err(LoadError::TooLong);
+        }
+        if bytes.extend_from_slice(&piece[..count]).is_err() {
+            return Err(LoadError::OutOfMemory);
+        }
+    }
+}
