@@ -1,0 +1,20 @@
+-- The words of the program, and the job that they ask for.
+use Rattle.std.specs.Prelude.{ℕ, ◌≡◌, ◌≢◌, List, [], ◌∷◌, codes}
+use Rattle.bz_top.specs.declared.job.Job.{Job}
+use Rattle.bz_top.specs.declared.job.Job.TheVariants.{Check}
+
+-- a word that names a file: not empty, and without `-` (45) in front
+abbrev pub IsFileName : List ℕ → Type 0
+IsFileName [] = ⊥
+IsFileName (c ∷ cs) = c ≢ 45
+
+-- the words are `check`, a model, a partition and a certificate
+pub record AsksToCheck (words : List (List ℕ)) (model part cert : List ℕ) : Type 0 where
+  pub words_are : words ≡ codes "check" ∷ model ∷ part ∷ cert ∷ []
+  pub model_name : IsFileName model
+  pub part_name : IsFileName part
+  pub cert_name : IsFileName cert
+
+-- the words ask for the job
+abbrev pub JobOf : List (List ℕ) → Job → Type 0
+JobOf words (Check model part cert) = AsksToCheck words model part cert

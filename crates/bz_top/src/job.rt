@@ -1,0 +1,58 @@
+//! What the words of the program ask for.
+ghost use Rattle.std.specs.Prelude.{◌≡◌, List, ℕ, map, IfOk, IfErr, IsTrue, ◌↔◌};
+ghost use Rattle.std.specs.String.{string_bytes};
+ghost use Rattle.bz_top.specs.Jobs.{IsFileName, JobOf};
+
+use bz_num::OutOfMemory;
+use std::alloc::Global;
+use std::marker::Model;
+
+/// The name of a file, as the words give it. Contracts see its bytes.
+#[derive(Drop)]
+pub struct FileName {
+    text: String,
+}
+
+impl Model for FileName {
+    ghost use Rattle.std.specs.Prelude.{List, ℕ};
+    ghost use Rattle.std.specs.String.{string_bytes};
+    ghost Value = { List ℕ };
+
+    ghost view = { λ n. string_bytes n.text };
+}
+
+impl FileName {
+    /// The name of these bytes. It takes no memory.
+    pub fn from_string(text: String) -> Self
+        ensures { result ≡ string_bytes text }
+    {
+        FileName { text }
+    }
+
+    /// The name's text. It takes no memory.
+    pub fn as_str(&self) -> &str
+        ensures { result.now ≡ self.now }
+    {
+        self.text.as_str()
+    }
+}
+
+/// What the words ask for.
+#[derive(Drop)]
+pub enum Job {
+    /// Check a certificate against a model and its partition.
+    Check {
+        model: FileName,
+        part: FileName,
+        cert: FileName,
+    },
+}
+
+/// Why words have no job.
+#[derive(Drop)]
+pub enum WordsFault {
+    /// They aren't of a form that the program knows.
+    Usage,
+    /// There is no memory for the names.
+    OutOfMemory,
+}

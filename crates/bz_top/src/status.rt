@@ -1,0 +1,71 @@
+//! How the program ends.
+ghost use Rattle.std.specs.Prelude.{◌≡◌, ◌<◌};
+ghost use Rattle.bz_top.specs.Ends.{number_of};
+
+/// How the program ends.
+#[derive(Clone, Copy, Debug, PartialEq, Eq)]
+pub enum Status {
+    /// The certificate holds, and its line is put whole.
+    Done,
+    /// No verdict was reached.
+    Unresolved,
+    /// The words are refused.
+    Usage,
+    /// The model's text is refused.
+    Model,
+    /// The partition's text, or the decomposition, is refused.
+    Part,
+    /// A load failed.
+    Read,
+    /// A put failed.
+    Write,
+    /// There is no memory.
+    Memory,
+    /// The certificate's text, or its check, is refused.
+    Cert,
+    /// A file is longer than its limit.
+    TooLong,
+}
+
+impl Status {
+    /// The number that the program ends with, from 0 to 9 in the order of the variants.
+    pub fn number(&self) -> u8
+        ensures { result ≡ number_of self.now }
+    {
+        match self {
+            Status::Done => 0,
+            Status::Unresolved => 1,
+            Status::Usage => 2,
+            Status::Model => 3,
+            Status::Part => 4,
+            Status::Read => 5,
+            Status::Write => 6,
+            Status::Memory => 7,
+            Status::Cert => 8,
+            Status::TooLong => 9,
+        }
+    }
+}
+
+/// One of the three files of a check.
+#[derive(Clone, Copy, Debug, PartialEq, Eq)]
+pub(crate) enum File {
+    Model,
+    Part,
+    Cert,
+}
+
+/// Why a check ends without a verdict.
+#[derive(Clone, Copy, Debug, PartialEq, Eq)]
+pub(crate) enum Refusal {
+    /// The text is not of its first form, or the partition is not strict.
+    Form(File),
+    /// The certificate does not pass, or its numbers do not fit.
+    Check,
+    /// The load of a file failed.
+    Read(File),
+    /// A file is longer than its limit.
+    TooLong(File),
+    /// There is no memory.
+    Memory,
+}
