@@ -1,9 +1,11 @@
+pub mod Agreement
 pub mod Bounded
 pub mod Combinations
 pub mod Counting
 pub mod Dependence
 pub mod Divisors
 pub mod Duality
+mod Examples
 pub mod Exchange
 pub mod NothingElse
 pub mod Pivoting

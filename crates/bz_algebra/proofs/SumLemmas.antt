@@ -51,6 +51,11 @@ pub dot_zero : (es : List (ℕ × ℤ)) → dot es (λ i. pos 0) ≡ pos 0
 dot_zero [] = refl
 dot_zero (e ∷ es) = rw (mul_zero e.1, dot_zero es)
 
+-- the order of two sums doesn't matter
+pub dot_swap : (es gs : List (ℕ × ℤ)) (f : ℕ → ℕ → ℤ) → dot es (λ i. dot gs (λ j. f i j)) ≡ dot gs (λ j. dot es (λ i. f i j))
+dot_swap [] gs f = sym (dot_zero gs)
+dot_swap (e ∷ es) gs f = rw (dot_swap es gs f, ← dot_scale gs e.1 (λ j. f e.0 j)) (sym (dot_add gs (λ j. e.1 *ℤ f e.0 j) (λ j. dot es (λ i. f i j))))
+
 -- ---- upto
 pub upto_same : (n : ℕ) (f g : ℕ → ℤ) → ((i : ℕ) → i < n → f i ≡ g i) → upto n f ≡ upto n g
 upto_same zero f g h = refl
