@@ -8,6 +8,7 @@ pub mod Duality
 mod Examples
 pub mod Exchange
 pub mod NothingElse
+pub mod Objectives
 pub mod Pivoting
 pub mod Programs
 pub mod Ring

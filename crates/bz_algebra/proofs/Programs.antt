@@ -1,8 +1,9 @@
 -- The equations of a program: what their rows and combinations are, and the tableau of the slacks.
-use Rattle.std.specs.Prelude.{ℕ, ◌+◌, ◌-◌, ◌<◌, ◌≤◌, ◌≡◌, ◌≢◌, ℤ, pos, ◌+ℤ◌, ◌*ℤ◌, ◌<ℤ◌, Bool, unsigned_abs}
+use Rattle.std.specs.Prelude.{ℕ, ◌+◌, ◌-◌, ◌<◌, ◌≤◌, ◌≡◌, ◌≢◌, ℤ, pos, ◌+ℤ◌, ◌*ℤ◌, ◌<ℤ◌, Bool, unsigned_abs, cond, ltb, eqb}
 use Rattle.std.specs.Int.{◌∣◌}
 use Rattle.std.proofs.Common.{refl, ap, sym, subst, ◌∙◌, arith}
 use Rattle.std.proofs.lemmas.Bool.{eq-eqb, ne_eqb}
+use Rattle.std.proofs.lemmas.Bool.Decides.{nat_tests}
 use Rattle.std.proofs.lemmas.Int.{ints}
 use Rattle.std.proofs.Math.Nat.{eq-one_of_dvd-one}
 use Rattle.bz_algebra.specs.Sums.{upto}
@@ -47,6 +48,19 @@ combination_right relaxed p v c =
 -- ---- the tableau of the slacks
 own_sum : (s : Equations) (i : ℕ) (v : ℕ → ℤ) (e : ℕ → ℤ) → i < s.rows → IsOwnRow s i v → e i ≡ upto s.rows (λ k. v (s.slack + k) *ℤ e k)
 own_sum s i v e b o = sym (upto_only s.rows i (λ k. v (s.slack + k) *ℤ e k) b (λ k l n. ap (λ (t : ℤ). t *ℤ e k) (o.others k l n) ∙ zero_mul (e k)) ∙ ap (λ (t : ℤ). t *ℤ e i) o.own ∙ one_mul (e i))
+
+-- row i itself
+pub own : Equations → ℕ → ℕ → ℤ
+own s i j = cond (ltb j s.slack) (s.entry i j) (cond (eqb j (side s)) (s.right i) (cond (eqb j (s.slack + i)) (pos 1) (pos 0)))
+
+pub own_is : (s : Equations) (i : ℕ) → i < s.rows → IsOwnRow s i (own s i)
+unfolding own
+own_is s i b = record {
+  columns = λ j l. grind (arith, nat_tests);
+  own = grind (arith, nat_tests);
+  others = λ k l n. grind (arith, nat_tests);
+  right = grind (arith, nat_tests);
+}
 
 -- each row itself is the row of its slack
 pub own_row : (s : Equations) (i : ℕ) (v : ℕ → ℤ) → i < s.rows → IsOwnRow s i v → IsRow s (slacks s) i v

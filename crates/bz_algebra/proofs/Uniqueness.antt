@@ -13,10 +13,11 @@ use Rattle.bz_algebra.proofs.Ring.{mul_zero}
 equal_of_zero : (a b : ℤ) → a -ℤ b ≡ pos 0 → a ≡ b
 equal_of_zero a b e = omega (arith, ints)
 
-no_rest : (a b x y : ℤ) → x ≡ pos 0 → y ≡ pos 0 → (a *ℤ x) -ℤ (b *ℤ y) ≡ pos 0
+-- both parts of a difference are 0
+pub no_rest : (a b x y : ℤ) → x ≡ pos 0 → y ≡ pos 0 → (a *ℤ x) -ℤ (b *ℤ y) ≡ pos 0
 no_rest a b x y e f = rw (e, f, mul_zero a, mul_zero b)
 
-crossed : (a b : ℤ) → (a *ℤ b) -ℤ (b *ℤ a) ≡ pos 0
+pub crossed : (a b : ℤ) → (a *ℤ b) -ℤ (b *ℤ a) ≡ pos 0
 crossed a b = omega (arith, ints)
 
 -- a basis has a tableau

@@ -57,6 +57,15 @@ equations_of relaxed p = record {
   right = λ i. if i == p.rows then pos 0 else p.rhs i;
 }
 
+-- the program's rows alone, without its objective: there the right side stands at the number of the factor column
+abbrev pub rows_of : Bool → Program → Equations
+rows_of relaxed p = record {
+  rows = p.rows;
+  slack = if relaxed then suc p.columns else p.columns;
+  entry = row_entry relaxed p;
+  right = p.rhs;
+}
+
 -- ---- rows of a basis
 
 -- v is a sum of multiples of the rows: row i is taken as often as v's entry in the slack of row i says
@@ -135,7 +144,7 @@ factor relaxed p = (equations_of relaxed p).slack + p.rows
 abbrev pub with_factor : Bool → Program → (ℕ → ℕ) → ℕ → ℕ
 with_factor relaxed p basis i = if i == p.rows then factor relaxed p else basis i
 
--- the columns at the places of the program's rows are a basis of it
+-- the columns at the places of the program's rows are a basis of it; it is the same to be a basis of `rows_of` (basis_with_objective, basis_without_objective)
 abbrev pub IsBasisOf : Bool → Program → (ℕ → ℕ) → Type 0
 IsBasisOf relaxed p basis = IsBasis (equations_of relaxed p) (with_factor relaxed p basis)
 
