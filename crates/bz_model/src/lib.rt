@@ -5,6 +5,8 @@ mod growing;
 mod laws;
 mod parts;
 mod records;
+mod rows;
+mod sides;
 
 pub use laws::feasible_is_meeting_all_parts;
 pub use parts::{BlockPart, Master, Parts};
