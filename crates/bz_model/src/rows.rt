@@ -1,11 +1,10 @@
 //! The inequalities of all rows and columns, part by part.
-ghost use Rattle.std.specs.Prelude.{◌≡◌, ◌<◌, ◌==◌, ◌&&◌, ◌∷◌, [], if◌then◌else◌, not, IfOk, length, pos, ◌<ℤ◌};
-ghost use Rattle.std.specs.List.{AllByRecursion, enumerate_from, filter, flat_map};
-ghost use Rattle.std.specs.Option.{ForSome};
+ghost use Rattle.std.specs.Prelude.{◌≡◌, suc, ◌<◌, ◌^◌, ◌∷◌, [], IfOk, length, pos, ◌<ℤ◌};
+ghost use Rattle.std.specs.List.{AllByRecursion, enumerate_from};
 ghost use Rattle.bz_algebra.specs.Numbers.{IsNarrow};
 ghost use Rattle.bz_algebra.specs.Sums.{AllBelow};
-ghost use Rattle.bz_model.specs.Parting.{at_least, at_most, blocks_of, home_of, inequalities_of, part_of, sides_of_column, sides_of_row, where_some};
-ghost use Rattle.bz_model.specs.Splits.{AreJoined, ArePositions, ListsAre, only_at};
+ghost use Rattle.bz_model.specs.Parting.{at_least, at_most, blocks_of, home_of, inequalities_of, part_of, sides_of_row, where_some};
+ghost use Rattle.bz_model.specs.Splits.{AreJoined, ArePositions, ListsAre, bounds_at, only_at, sides_of_columns, sides_of_rows};
 ghost use Rattle.bz_model.specs.Strict.{HasItsColumns, IsPartition};
 
 use crate::growing::{Growing, empty_lists};
@@ -89,4 +88,91 @@ pub fn push_lower_bound(
         },
         None => Ok(()),
     }
+}
+
+/// Adds the bounds of a column to the list of its part, where the column is no integer.
+pub fn push_bounds(
+    alloc: Global,
+    part: &[u32],
+    positions: &[u32],
+    number: u32,
+    column: &Column,
+    lists: &mut Vec<Growing<Ineq>>,
+) -> Result<(), AllocError>
+    requires column { number < length part.now }
+    requires places { ArePositions part.now positions.now }
+    requires room { blocks_of part.now < length lists.old.items }
+    ensures { IfOk result (λ _. AreJoined lists.old.items lists.new.items (bounds_at part.now (number, column.now))) }
+{
+    if column.integer {
+        return Ok(());
+    }
+    push_upper_bound(alloc, part, positions, number, column.upper, lists)?;
+    push_lower_bound(alloc, part, positions, number, column.lower, lists)
+}
+
+/// Adds the sides of all rows to the lists of their parts.
+pub fn push_rows(
+    alloc: Global,
+    part: &[u32],
+    positions: &[u32],
+    rows: &[Row],
+    lists: &mut Vec<Growing<Ineq>>,
+) -> Result<(), AllocError>
+    requires columns { AllByRecursion (λ row. AllBelow (length part.now) row.terms) rows.now }
+    requires places { ArePositions part.now positions.now }
+    requires room { blocks_of part.now < length lists.old.items }
+    ensures { IfOk result (λ _. AreJoined lists.old.items lists.new.items (sides_of_rows part.now rows.now)) }
+{
+    for row in rows {
+        push_row(alloc, part, positions, row, lists)?;
+    }
+    Ok(())
+}
+
+/// Adds the bounds of all columns that are no integers to the lists of their parts.
+pub fn push_columns(
+    alloc: Global,
+    part: &[u32],
+    positions: &[u32],
+    columns: &[Column],
+    lists: &mut Vec<Growing<Ineq>>,
+) -> Result<(), AllocError>
+    requires numbers { length part.now ≡ length columns.now }
+    requires few { length columns.now < 2 ^ 28 }
+    requires places { ArePositions part.now positions.now }
+    requires room { blocks_of part.now < length lists.old.items }
+    ensures { IfOk result (λ _. AreJoined lists.old.items lists.new.items (sides_of_columns part.now (enumerate_from 0 columns.now))) }
+{
+    for (number, column) in columns.iter().enumerate() {
+        push_bounds(alloc, part, positions, number as u32, column, lists)?;
+    }
+    Ok(())
+}
+
+/// The inequalities of each part.
+pub fn inequality_lists(
+    alloc: Global,
+    model: &Model,
+    part: &[u32],
+    positions: &[u32],
+    blocks: u32,
+) -> Result<Vec<Growing<Ineq>>, AllocError>
+    requires indexes { HasItsColumns model.now }
+    requires partition { IsPartition model.now part.now }
+    requires few { length model.now.columns < 2 ^ 28 }
+    requires places { ArePositions part.now positions.now }
+    requires blocks { blocks ≡ blocks_of part.now }
+    ensures { IfOk result (λ lists. ListsAre (suc (blocks_of part.now)) (inequalities_of model.now part.now) lists.items) }
+{
+    let mut lists = empty_lists(alloc, blocks as usize + 1)?;
+    push_rows(alloc, part, positions, model.rows.as_slice(), &mut lists)?;
+    push_columns(
+        alloc,
+        part,
+        positions,
+        model.columns.as_slice(),
+        &mut lists,
+    )?;
+    Ok(lists)
 }
