@@ -1,15 +1,16 @@
 -- Lists that grow at one number.
-use Rattle.std.specs.Prelude.{ℕ, zero, suc, ◌+◌, ◌<◌, ◌≤◌, ◌≡◌, ◌⊎◌, Bool, true, false, cond, eqb, not, ◌&&◌, List, [], ◌∷◌, ◌++◌, length, get_or, take, slice_index_or}
+use Rattle.std.specs.Prelude.{ℕ, zero, suc, ◌+◌, ◌<◌, ◌≤◌, ◌≡◌, ◌⊎◌, Bool, true, false, cond, eqb, not, ◌&&◌, List, [], ◌∷◌, ◌++◌, length, get_or, map, take, slice_index_or}
 use Rattle.std.specs.List.{enumerate_from, filter, flat_map}
 use Rattle.std.proofs.Common.{refl, ap, sym, subst, ◌∙◌, arith, inl, inr, append_assoc, append-nil, add-one, zero-add}
 use Rattle.std.proofs.lemmas.Bool.{cases_Bool, cases_eq, eq-eqb, ne_eqb}
 use Rattle.std.proofs.Math.Seq.{take-suc}
 use Rattle.std.proofs.lemmas.Grind.{flat_map-append}
+use Rattle.std.proofs.lemmas.List.{get_or_default, map-append}
 use Rattle.std.proofs.lemmas.List.Elements.{filter-append}
 use Rattle.bz_model.specs.declared.records.Column.{Column}
 use Rattle.bz_model.specs.declared.records.Ineq.{Ineq}
 use Rattle.bz_model.specs.declared.records.Row.{Row}
-use Rattle.bz_model.specs.Parting.{part_of, home_of, sides_of_row, sides_of_column}
+use Rattle.bz_model.specs.Parting.{part_of, columns_of, home_of, sides_of_row, sides_of_column}
 use Rattle.bz_model.specs.Splits.{AreJoined, ListsAre, bounds_at, only_at, sides_of_columns, sides_of_rows}
 
 module _ {X : Type 0} where
@@ -67,3 +68,14 @@ pub columns_more : (part : List ℕ) (columns : List Column) (i : ℕ) (column :
 columns_more part columns i column l e j k = join_then _ j k (λ b m.
     sym (ap (λ (es : List (ℕ × Column)). sides_of_columns part es b) (numbered_next 0 columns i column l e ∙ ap (λ (n : ℕ). enumerate_from 0 (take i columns) ++ (n, column) ∷ []) (zero-add i))
     ∙ flat_push (sides_of_column part b) (λ e. eqb (part_of part e.0) b && not e.1.integer) (enumerate_from 0 (take i columns)) (i, column)))
+
+-- one more column of a partition
+pub columns_push : (part : List ℕ) (i b : ℕ) → i < length part → columns_of (take (i + 1) part) b ≡ columns_of (take i part) b ++ only_at (get_or part i 0) (i ∷ []) b
+columns_push part i b l =
+    ap (λ (es : List (ℕ × ℕ)). map (λ e. e.0) (filter (λ e. eqb e.1 b) es)) (numbered_next 0 part i (get_or part i 0) l (get_or_default part i 0 (get_or part i 0) l))
+    ∙ ap (map (λ e. e.0)) (filter-append (λ e. eqb e.1 b) (enumerate_from 0 (take i part)) ((0 + i, get_or part i 0) ∷ []))
+    ∙ map-append (λ e. e.0) (filter (λ e. eqb e.1 b) (enumerate_from 0 (take i part))) _
+    ∙ ap (λ (ys : List ℕ). columns_of (take i part) b ++ ys) (last (cases_Bool (eqb (get_or part i 0) b)))
+  where
+    last : (eqb (get_or part i 0) b ≡ true) ⊎ (eqb (get_or part i 0) b ≡ false) → map (λ (e : ℕ × ℕ). e.0) (filter (λ e. eqb e.1 b) ((0 + i, get_or part i 0) ∷ [])) ≡ only_at (get_or part i 0) (i ∷ []) b
+    last c = elim c [ inl t ↦ rw t (ap (λ (k : ℕ). k ∷ []) (zero-add i)) | inr t ↦ rw t ]

@@ -4,3 +4,4 @@ pub mod PartSums
 pub mod Positions
 pub mod Sparse
 pub mod Joins
+pub mod Placing

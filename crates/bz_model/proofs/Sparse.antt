@@ -61,7 +61,7 @@ sparse_from_terms_in part b low (e ∷ es) k h =
 pub sparse_terms_in : (part : List ℕ) (b : ℕ) (es : List (ℕ × ℤ)) → AllBelow (length part) es → IsSparse es → IsSparse (terms_in part b es)
 sparse_terms_in part b es k h = sparse_lower 0 (before part b 0) (terms_in part b es) (omega arith) (sparse_from_terms_in part b 0 es k h)
 
-size_neg : (z : ℤ) → unsigned_abs (neg_ℤ z) ≡ unsigned_abs z
+pub size_neg : (z : ℤ) → unsigned_abs (neg_ℤ z) ≡ unsigned_abs z
 size_neg z = omega (arith, ints)
 
 sparse_from_negated : (low : ℕ) (es : List (ℕ × ℤ)) → IsSparseFrom low es → IsSparseFrom low (negated es)
@@ -87,7 +87,7 @@ narrow_at low (e ∷ es) zero d h l = h.0.narrow
 narrow_at low (e ∷ es) (suc i) d h l = narrow_at (suc e.0) es i d h.1 (omega arith)
 
 -- ---- steps of loops over the terms
-left_at : {X : Type 0} (es : List X) (i : ℕ) (d : X) → i < length es → drop i es ≡ get_or es i d ∷ drop (i + 1) es
+pub left_at : {X : Type 0} (es : List X) (i : ℕ) (d : X) → i < length es → drop i es ≡ get_or es i d ∷ drop (i + 1) es
 left_at es i d l = rw add-one (drop-cons es i d l)
 
 pub none_left : {X : Type 0} (es : List X) (i : ℕ) → length es ≤ i → drop i es ≡ []
