@@ -17,10 +17,10 @@ abbrev pub at_part : List ℕ → ℕ → (ℕ → ℤ) → ℕ → ℤ
 at_part part b f k = f (column_at part b k)
 
 -- ---- the terms of a part
-terms_in-here : (part : List ℕ) (b : ℕ) (e : ℕ × ℤ) (es : List (ℕ × ℤ)) → part_of part e.0 ≡ b → terms_in part b (e ∷ es) ≡ (position_of part e.0, e.1) ∷ terms_in part b es
+pub terms_in-here : (part : List ℕ) (b : ℕ) (e : ℕ × ℤ) (es : List (ℕ × ℤ)) → part_of part e.0 ≡ b → terms_in part b (e ∷ es) ≡ (position_of part e.0, e.1) ∷ terms_in part b es
 terms_in-here part b e es h = rw (eq-eqb (part_of part e.0) b h)
 
-terms_in-there : (part : List ℕ) (b : ℕ) (e : ℕ × ℤ) (es : List (ℕ × ℤ)) → (part_of part e.0 ≡ b → ⊥) → terms_in part b (e ∷ es) ≡ terms_in part b es
+pub terms_in-there : (part : List ℕ) (b : ℕ) (e : ℕ × ℤ) (es : List (ℕ × ℤ)) → (part_of part e.0 ≡ b → ⊥) → terms_in part b (e ∷ es) ≡ terms_in part b es
 terms_in-there part b e es h = rw (ne_eqb (part_of part e.0) b h)
 
 -- a part's terms have positions of the part

@@ -1,4 +1,5 @@
 pub mod Meeting
 pub mod Parting
 pub mod Points
+pub mod Splits
 pub mod Strict

@@ -1,6 +1,6 @@
 //! Lists that grow at their ends.
-ghost use Rattle.std.specs.Prelude.{◌≡◌, ◌+◌, ◌∷◌, ◌++◌, [], IfOk, length};
-ghost use Rattle.std.specs.Prelude.{slice_index_or, slice_set, List, ◌<◌, ℕ, ◌≤◌};
+ghost use Rattle.std.specs.Prelude.{◌≡◌, ◌<◌, ◌∷◌, ◌++◌, [], IfOk, length, replicate};
+ghost use Rattle.bz_model.specs.Splits.{AreJoined, only_at};
 
 use std::alloc::{AllocError, Global};
 use std::marker::Model;
@@ -17,6 +17,15 @@ impl<T> Model for Growing<T> {
     ghost Value = { List T };
 
     ghost view = { λ l. l.items.items };
+}
+
+impl<T> Growing<T> {
+    /// The items, in order. It takes no memory.
+    pub fn as_slice(&self) -> &[T]
+        ensures { result.now ≡ self.now }
+    {
+        self.items.as_slice()
+    }
 }
 
 impl<T: Drop> Growing<T> {
@@ -36,18 +45,11 @@ impl<T: Drop> Growing<T> {
         self.items.push(item)?;
         Ok(())
     }
-
-    /// The items, in order. It takes no memory.
-    pub fn as_slice(&self) -> &[T]
-        ensures { result.now ≡ self.now }
-    {
-        self.items.as_slice()
-    }
 }
 
 /// So many empty lists.
 pub fn empty_lists<T: Drop>(alloc: Global, count: usize) -> Result<Vec<Growing<T>>, AllocError>
-    ensures { IfOk result (λ lists. (length lists.items ≡ count) × ((i : ℕ) → i < count → (d : List T) → slice_index_or lists.items i d ≡ [])) }
+    ensures { IfOk result (λ lists. lists.items ≡ replicate count []) }
 {
     let mut lists = Vec::new(alloc);
     for _ in 0..count {
@@ -59,7 +61,7 @@ pub fn empty_lists<T: Drop>(alloc: Global, count: usize) -> Result<Vec<Growing<T
 /// Adds an item at the end of one of the lists.
 pub fn push_at<T: Drop>(lists: &mut Vec<Growing<T>>, at: usize, item: T) -> Result<(), AllocError>
     requires { at < length lists.old.items }
-    ensures { IfOk result (λ _. (d : List T) → lists.new.items ≡ slice_set lists.old.items at (slice_index_or lists.old.items at d ++ item ∷ [])) }
+    ensures { IfOk result (λ _. AreJoined lists.old.items lists.new.items (only_at at (item ∷ []))) }
 {
     lists[at].push(item)
 }

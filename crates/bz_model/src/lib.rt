@@ -4,8 +4,13 @@
 mod growing;
 mod laws;
 mod parts;
+mod places;
 mod records;
+mod rows;
+mod sides;
+mod splitting;
 
 pub use laws::feasible_is_meeting_all_parts;
 pub use parts::{BlockPart, Master, Parts};
 pub use records::{Column, Ineq, Model, Row};
+pub use splitting::{Split, Unsplit0};

@@ -1,0 +1,7 @@
+use Rattle.std.proofs.Common.{take}
+use Rattle.bz_model.specs.Splits.{AreJoined, sides_of_rows}
+use Rattle.bz_model.proofs.rows.push_rows.Given as goal
+
+abbrev pub invariant-loop-row : goal.invariant-loop-row
+invariant-loop-row l =
+    AreJoined l.initial.lists.items l.lists.items (sides_of_rows l.part (take l.row-index l.rows))
