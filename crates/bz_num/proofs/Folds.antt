@@ -179,9 +179,9 @@ fold_from-append_ok at sum [] qs s h =
     rw same (rw add-zero refl)
 fold_from-append_ok at sum (p ∷ ps) qs s h =
     under-ok (goes_wide sum p) (record { at = at }) (fold_from (at + 1) (sum +ℤ (p.0 *ℤ p.1)) ps) _ _ s h (λ rest.
-        let later : fold_from (at + 1) (sum +ℤ (p.0 *ℤ p.1)) (ps ++ qs) ≡ fold_from ((at + 1) + length ps) s qs = fold_from-append_ok (at + 1) (sum +ℤ (p.0 *ℤ p.1)) ps qs s rest in
-        let place : (at + 1) + length ps ≡ at + length (p ∷ ps) = omega arith in
-        later ∙ ap (λ (n : ℕ). fold_from n s qs) place)
+    let later : fold_from (at + 1) (sum +ℤ (p.0 *ℤ p.1)) (ps ++ qs) ≡ fold_from ((at + 1) + length ps) s qs = fold_from-append_ok (at + 1) (sum +ℤ (p.0 *ℤ p.1)) ps qs s rest in
+    let place : (at + 1) + length ps ≡ at + length (p ∷ ps) = omega arith in
+    later ∙ ap (λ (n : ℕ). fold_from n s qs) place)
 
 under-err : (b : Bool) (x e : WideSum) (r whole : Result ℤ WideSum) → cond b (Err x) r ≡ Err e → (r ≡ Err e → whole ≡ Err e) → cond b (Err x) whole ≡ Err e
 under-err true x e r whole h step = h

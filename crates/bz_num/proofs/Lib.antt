@@ -1,3 +1,4 @@
+pub mod Coefs
 pub mod Divisors
 pub mod Folds
 pub mod Reduces

@@ -1,5 +1,5 @@
 //! Worked values.
-use crate::{Folding, SparseRow, WideSum, fold, gcd, primitive};
+use crate::{Folding, Frac, Items, Name, OutOfMemory, SparseRow, WideSum, fold, gcd, primitive};
 use std::test::Fail;
 
 const HALF: i128 = 85070591730234615865843651857942052864; // 2^126
@@ -65,4 +65,28 @@ fn a_row_becomes_primitive(rt: HostRuntime) -> Result<(), Fail> {
     assert_eq!(rt; primitive(&mut empty, &mut zero), 0);
     assert_eq!(rt; zero, 0);
     Ok(())
+}
+
+#[test]
+fn lists_from_vectors(rt: HostRuntime) -> Result<(), Fail> {
+    let name = Name::from_vec(Vec::from_slice(rt.alloc(), b"cost")?);
+    assert_eq!(rt; name.as_slice(), b"cost".as_slice());
+    let halves = [Frac { num: 1, den: 2 }, Frac { num: -3, den: 2 }];
+    let items = Items::from_vec(Vec::from_slice(rt.alloc(), &halves)?);
+    assert_eq!(rt; items.as_slice().len(), 2);
+    let row = SparseRow::from_vec(Vec::from_slice(rt.alloc(), &[(7, -1)])?);
+    assert_eq!(rt; row.at(7), -1);
+    Ok(())
+}
+
+fn crosses_threads<T: Send + Sync>() {}
+
+#[test]
+fn types_cross_threads() {
+    crosses_threads::<Frac>();
+    crosses_threads::<Items<Name>>();
+    crosses_threads::<SparseRow>();
+    crosses_threads::<WideSum>();
+    crosses_threads::<Folding>();
+    crosses_threads::<OutOfMemory>();
 }
