@@ -1,3 +1,4 @@
+pub mod Calls
 pub mod Takings
 pub mod Texts
 pub mod Untold

@@ -17,3 +17,6 @@ pub use host_sink::HostSink;
 pub use mem_desk::MemDesk;
 pub use mem_sink::MemSink;
 pub use sink::{PutFailed, Sink, put_all};
+
+#[cfg(test)]
+mod tests;

@@ -1,0 +1,111 @@
+use super::*;
+use std::alloc::{AllocError, Global};
+use std::cell::Cell;
+use std::fmt::Display;
+use std::test::Fail;
+use std::{fs, io, process};
+
+fn one_file(alloc: Global, name: &[u8], text: &[u8]) -> Result<Vec<(Vec<u8>, Vec<u8>)>, AllocError> {
+    let mut files = Vec::new(alloc);
+    files.push((Vec::from_slice(alloc, name)?, Vec::from_slice(alloc, text)?))?;
+    Ok(files)
+}
+
+#[test]
+fn a_desk_in_memory_loads(rt: HostRuntime) -> Result<(), Fail> {
+    let alloc = rt.alloc();
+    let fails = vec![in alloc; 2u64]?;
+    let mut desk = MemDesk::new(alloc, one_file(alloc, b"part", b"0 1\n")?, fails);
+    let loaded = desk.load(alloc, "part", 4)?;
+    assert_eq!(rt; loaded.as_slice(), b"0 1\n".as_slice());
+    for (name, limit, want) in [
+        ("model", 4, LoadError::Failed),
+        ("part", 4, LoadError::Failed),
+        ("part", 3, LoadError::TooLong),
+    ] {
+        let refused = desk.load(alloc, name, limit).err();
+        assert!(rt; refused == Some(want), "{name} within {limit}");
+    }
+    Ok(())
+}
+
+#[test]
+fn a_desk_in_memory_saves(rt: HostRuntime) -> Result<(), Fail> {
+    let alloc = rt.alloc();
+    let fails = vec![in alloc; 2u64]?;
+    let mut desk = MemDesk::new(alloc, one_file(alloc, b"part", b"0 1\n")?, fails);
+    desk.save("cert", b"value 1")?;
+    desk.save("part", b"2")?;
+    assert!(rt; desk.save("cert", b"end") == Err(SaveError::Failed));
+    for (name, text) in [("cert", b"".as_slice()), ("part", b"2".as_slice())] {
+        let held = desk.held(name).ok_or("nothing is held")?;
+        assert_eq!(rt; held, text, "under {name}");
+    }
+    assert!(rt; desk.held("model").is_none());
+    Ok(())
+}
+
+#[test]
+fn a_failed_put_leaves_a_prefix(rt: HostRuntime) -> Result<(), Fail> {
+    let alloc = rt.alloc();
+    let mut out = MemSink::new(alloc, 7, vec![in alloc; 1u64]?);
+    assert!(rt; put_all(&mut out, b"status optimal") == Err(PutFailed));
+    assert_eq!(rt; out.taken(), b"status ".as_slice());
+    put_all(&mut out, b"infeasible")?;
+    assert_eq!(rt; out.taken(), b"status infeasible".as_slice());
+    Ok(())
+}
+
+#[test]
+fn bytes_pass_through_a_file(rt: HostRuntime) -> Result<(), Fail> {
+    let alloc = rt.alloc();
+    let path = format!(in alloc; "/tmp/bz_io-{}", process::id(rt.process()))?;
+    let mut desk = HostDesk::new(&rt);
+    desk.save(path.as_str(), b"value 1 1\n")?;
+    let loaded = desk.load(alloc, path.as_str(), 10)?;
+    let refused = desk.load(alloc, path.as_str(), 9).err();
+    fs::remove_file(&rt, path.as_str())?;
+    let gone = desk.load(alloc, path.as_str(), 10).err();
+    assert_eq!(rt; loaded.as_slice(), b"value 1 1\n".as_slice());
+    assert!(rt; refused == Some(LoadError::TooLong));
+    assert!(rt; gone == Some(LoadError::Failed));
+    Ok(())
+}
+
+/// Takes two bytes at a time, and keeps the last eight as the digits of a number.
+#[derive(Drop)]
+struct Recorder {
+    seen: Cell<u64>,
+}
+
+impl Print for Recorder {
+    fn print<D: Display + Drop>(&self, _value: D) -> io::Result<()> {
+        Ok(())
+    }
+
+    fn println<D: Display + Drop>(&self, _value: D) -> io::Result<()> {
+        Ok(())
+    }
+
+    fn write_all(&self, _bytes: &[u8]) -> io::Result<()> {
+        Ok(())
+    }
+
+    fn write_some(&self, bytes: &[u8]) -> io::Result<usize> {
+        let count = bytes.len().min(2);
+        for byte in &bytes[..count] {
+            let seen = self.seen.get().wrapping_mul(256);
+            self.seen.set(seen.wrapping_add(u64::from(*byte)));
+        }
+        Ok(count)
+    }
+}
+
+#[test]
+fn bytes_pass_through_standard_output(rt: HostRuntime) -> Result<(), Fail> {
+    let recorder = Recorder { seen: Cell::new(0) };
+    put_all(&mut HostSink::new(&recorder), b"gap 3/4")?;
+    assert_eq!(rt; recorder.seen.get(), u64::from_be_bytes(*b"\0gap 3/4"));
+    put_all(&mut HostSink::new(&rt), b"gap 3/4\n")?;
+    Ok(())
+}
