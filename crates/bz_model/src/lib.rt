@@ -7,6 +7,7 @@ mod parts;
 mod places;
 mod records;
 mod rows;
+mod sharing;
 mod sides;
 mod splitting;
 
