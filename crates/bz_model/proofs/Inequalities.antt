@@ -1,8 +1,11 @@
 -- What each inequality of a part speaks of: positions of the part and of the master.
-use Rattle.std.specs.Prelude.{ℕ, ◌<◌, ◌≤◌, ◌≡◌, Bool, true, false, not, ◌&&◌, eqb, ℤ, neg_ℤ, List, [], ◌∷◌, ◌++◌, length, filter, Option, Some, None, ◌==◌}
+use Rattle.std.specs.Prelude.{ℕ, ◌+◌, ◌*◌, ◌<◌, ◌≤◌, ◌≡◌, Bool, true, false, not, ◌&&◌, eqb, ℤ, neg_ℤ, List, [], ◌∷◌, ◌++◌, length, filter, Option, Some, None, ◌==◌}
 use Rattle.std.specs.List.{AllByRecursion, enumerate_from, flat_map}
 use Rattle.std.proofs.Common.{refl, ap, sym, ◌∙◌, arith, inl, inr}
-use Rattle.std.proofs.lemmas.Bool.{cases_eq, eq-eqb, ne_eqb}
+use Rattle.std.proofs.lemmas.Bool.{cases_Bool, cases_eq, eq-eqb, ne_eqb}
+use Rattle.std.proofs.lemmas.List.{length-append}
+use Rattle.std.proofs.lemmas.List.FromFn.{length-enumerate_from}
+use Rattle.std.proofs.lemmas.List.Sums.{count_by-le-length, length-filter}
 use Rattle.bz_algebra.specs.Numbers.{IsNarrow}
 use Rattle.bz_algebra.specs.Sums.{AllBelow}
 use Rattle.bz_num.specs.declared.Frac.{Frac}
@@ -10,9 +13,9 @@ use Rattle.bz_model.specs.declared.records.Column.{Column}
 use Rattle.bz_model.specs.declared.records.Ineq.{Ineq}
 use Rattle.bz_model.specs.declared.records.Model.{Model}
 use Rattle.bz_model.specs.declared.records.Row.{Row}
-use Rattle.bz_model.specs.Parting.{width_of, terms_in, negated, at_most, at_least, where_some, sides_of_row, sides_of_column, rows_in, continuous_in, inequalities_of}
+use Rattle.bz_model.specs.Parting.{part_of, home_of, integers_of, width_of, terms_in, negated, at_most, at_least, where_some, sides_of_row, sides_of_column, rows_in, continuous_in, inequalities_of}
 use Rattle.bz_model.specs.Splits.{FitsPart}
-use Rattle.bz_model.specs.Strict.{HasItsColumns}
+use Rattle.bz_model.specs.Strict.{HasItsColumns, size_of}
 use Rattle.bz_model.proofs.MeetingParts.{all_append, all_then, all_kept, all_flat, all_of, numbers_within}
 use Rattle.bz_model.proofs.PartSums.{beside, terms_in_within, negated_within}
 use Rattle.bz_model.proofs.Sparse.{size_neg}
@@ -59,3 +62,38 @@ master_has_own_alone m part = all_append P (flat_map (sides_of_row part 0) (rows
   where
     P : Ineq → Type 0
     P i = i.master ≡ []
+
+-- ---- how many inequalities a part has
+length-some : {A : Type 0} (o : Option A) (f : A → Ineq) → length (where_some o f) ≤ 1
+length-some None f = omega arith
+length-some (Some a) f = omega arith
+
+length-sides_of_row : (part : List ℕ) (b : ℕ) (row : Row) → length (sides_of_row part b row) ≤ 2
+length-sides_of_row part b row =
+    omega (arith, length-append (where_some row.upper (at_most part b row.terms)) (where_some row.lower (at_least part b row.terms)), length-some row.upper (at_most part b row.terms), length-some row.lower (at_least part b row.terms))
+
+length-sides_of_column : (part : List ℕ) (b : ℕ) (e : ℕ × Column) → length (sides_of_column part b e) ≤ 2
+length-sides_of_column part b e =
+    omega (arith, length-append (where_some e.1.upper (λ f. at_most part b ((e.0, f.den) ∷ []) f.num)) (where_some e.1.lower (λ f. at_least part b ((e.0, f.den) ∷ []) f.num)), length-some e.1.upper (λ f. at_most part b ((e.0, f.den) ∷ []) f.num), length-some e.1.lower (λ f. at_least part b ((e.0, f.den) ∷ []) f.num))
+
+length-flat : {X : Type 0} (f : X → List Ineq) (t : X → Bool) (xs : List X) → ((x : X) → length (f x) ≤ 2) → length (flat_map f (filter t xs)) ≤ 2 * length xs
+length-flat f t [] h = omega arith
+length-flat f t (x ∷ xs) h = let more : length (flat_map f (filter t xs)) ≤ 2 * length xs = length-flat f t xs h in elim (cases_Bool (t x)) [
+      inl e ↦ rw e (omega (arith, length-append (f x) (flat_map f (filter t xs)), h x))
+    | inr e ↦ rw e (omega arith) ]
+
+-- at most two for each row and each column
+pub length-inequalities : (m : Model) (part : List ℕ) (b : ℕ) → length (inequalities_of m part b) ≤ 2 * length m.rows + 2 * length m.columns
+length-inequalities m part b =
+    omega (arith, length-append (flat_map (sides_of_row part b) (rows_in m part b)) (flat_map (sides_of_column part b) (continuous_in m part b)),
+        length-flat (sides_of_row part b) (λ row. home_of part row.terms == b) m.rows (length-sides_of_row part b),
+        length-flat (sides_of_column part b) (λ e. (part_of part e.0 == b) && not e.1.integer) (enumerate_from 0 m.columns) (length-sides_of_column part b),
+        length-enumerate_from 0 m.columns)
+
+pub size_within : (m : Model) (part : List ℕ) (b : ℕ) → size_of m part b ≤ 2 * length m.rows + 4 * length m.columns
+size_within m part b =
+    let l = length-inequalities m part b in
+    let i : length (integers_of m) ≤ length m.columns = omega (arith, length-filter (λ (e : ℕ × Column). e.1.integer) (enumerate_from 0 m.columns), count_by-le-length (λ (e : ℕ × Column). e.1.integer) (enumerate_from 0 m.columns), length-enumerate_from 0 m.columns) in
+    elim (cases_eq b 0) [
+        inl z ↦ rw (eq-eqb b 0 z) (omega (arith, l))
+      | inr d ↦ rw (ne_eqb b 0 d) (omega (arith, l)) ]

@@ -3,3 +3,4 @@ pub mod Parting
 pub mod Points
 pub mod Splits
 pub mod Strict
+pub mod Worked

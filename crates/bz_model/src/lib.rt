@@ -15,3 +15,6 @@ pub use laws::feasible_is_meeting_all_parts;
 pub use parts::{BlockPart, Master, Parts};
 pub use records::{Column, Ineq, Model, Row};
 pub use splitting::{Split, Unsplit0};
+
+#[cfg(test)]
+mod tests;
