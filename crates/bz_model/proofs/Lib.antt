@@ -5,3 +5,4 @@ pub mod Positions
 pub mod Sparse
 pub mod Joins
 pub mod Placing
+pub mod WorkedModel

@@ -2,7 +2,7 @@
 ghost use Rattle.std.specs.Prelude.{◌≡◌, ◌∷◌, [], IfOk, pos};
 ghost use Rattle.bz_model.specs.Worked.{AreWorkedColumns, AreWorkedRows};
 
-use crate::{Column, Ineq, Model, Row, Split};
+use crate::{Column, Model, Row, Split};
 use bz_num::{Frac, Items, Name, OutOfMemory, SparseRow};
 use std::alloc::Global;
 use std::test::Fail;
@@ -65,4 +65,23 @@ fn split(alloc: Global) -> Result<Split, OutOfMemory> {
         Ok(split) => Ok(split),
         Err(_) => Err(OutOfMemory),
     }
+}
+
+#[test]
+fn splits_the_worked_model(rt: HostRuntime) -> Result<(), Fail> {
+    let split = split(rt.alloc())?;
+    assert_eq!(rt; split.model().columns.as_slice().len(), 2);
+    assert_eq!(rt; split.blocks(), 1);
+    assert_eq!(rt; split.columns_of(0), [0].as_slice());
+    assert_eq!(rt; split.columns_of(1), [1].as_slice());
+    assert_eq!(rt; split.inequalities(0).len(), 0);
+    let sides = split.inequalities(1);
+    assert_eq!(rt; sides.len(), 2);
+    let wanted = [(-1, -1, -1), (-1, 0, 0)];
+    for (side, (own, master, rhs)) in sides.iter().zip(wanted) {
+        assert_eq!(rt; side.own.as_slice(), [(0, own)].as_slice());
+        assert_eq!(rt; side.master.at(0), master);
+        assert_eq!(rt; side.rhs, rhs);
+    }
+    Ok(())
 }
