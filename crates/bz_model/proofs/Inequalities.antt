@@ -22,8 +22,9 @@ use Rattle.bz_model.proofs.Sparse.{size_neg}
 
 beside_within : (part : List ℕ) (b : ℕ) (es : List (ℕ × ℤ)) → AllBelow (length part) es → AllBelow (width_of part 0) (beside part b es)
 beside_within part b es h = elim (cases_eq b 0) [
-      inl z ↦ rw (eq-eqb b 0 z) tt
-    | inr d ↦ rw (ne_eqb b 0 d) (terms_in_within part 0 es h) ]
+  | inl z ↦ rw (eq-eqb b 0 z) tt
+  | inr d ↦ rw (ne_eqb b 0 d) (terms_in_within part 0 es h)
+]
 
 at_most_fits : (part : List ℕ) (b : ℕ) (es : List (ℕ × ℤ)) (rhs : ℤ) → AllBelow (length part) es → IsNarrow rhs → FitsPart part b (at_most part b es rhs)
 at_most_fits part b es rhs h n = record { own = terms_in_within part b es h; master = beside_within part b es h; rhs = n }
@@ -79,21 +80,26 @@ length-sides_of_column part b e =
 length-flat : {X : Type 0} (f : X → List Ineq) (t : X → Bool) (xs : List X) → ((x : X) → length (f x) ≤ 2) → length (flat_map f (filter t xs)) ≤ 2 * length xs
 length-flat f t [] h = omega arith
 length-flat f t (x ∷ xs) h = let more : length (flat_map f (filter t xs)) ≤ 2 * length xs = length-flat f t xs h in elim (cases_Bool (t x)) [
-      inl e ↦ rw e (omega (arith, length-append (f x) (flat_map f (filter t xs)), h x))
-    | inr e ↦ rw e (omega arith) ]
+  | inl e ↦ rw e (omega (arith, length-append (f x) (flat_map f (filter t xs)), h x))
+  | inr e ↦ rw e (omega arith)
+]
 
 -- at most two for each row and each column
 pub length-inequalities : (m : Model) (part : List ℕ) (b : ℕ) → length (inequalities_of m part b) ≤ 2 * length m.rows + 2 * length m.columns
 length-inequalities m part b =
-    omega (arith, length-append (flat_map (sides_of_row part b) (rows_in m part b)) (flat_map (sides_of_column part b) (continuous_in m part b)),
-        length-flat (sides_of_row part b) (λ row. home_of part row.terms == b) m.rows (length-sides_of_row part b),
-        length-flat (sides_of_column part b) (λ e. (part_of part e.0 == b) && not e.1.integer) (enumerate_from 0 m.columns) (length-sides_of_column part b),
-        length-enumerate_from 0 m.columns)
+    omega (
+      arith,
+      length-append (flat_map (sides_of_row part b) (rows_in m part b)) (flat_map (sides_of_column part b) (continuous_in m part b)),
+      length-flat (sides_of_row part b) (λ row. home_of part row.terms == b) m.rows (length-sides_of_row part b),
+      length-flat (sides_of_column part b) (λ e. (part_of part e.0 == b) && not e.1.integer) (enumerate_from 0 m.columns) (length-sides_of_column part b),
+      length-enumerate_from 0 m.columns,
+    )
 
 pub size_within : (m : Model) (part : List ℕ) (b : ℕ) → size_of m part b ≤ 2 * length m.rows + 4 * length m.columns
 size_within m part b =
     let l = length-inequalities m part b in
     let i : length (integers_of m) ≤ length m.columns = omega (arith, length-filter (λ (e : ℕ × Column). e.1.integer) (enumerate_from 0 m.columns), count_by-le-length (λ (e : ℕ × Column). e.1.integer) (enumerate_from 0 m.columns), length-enumerate_from 0 m.columns) in
     elim (cases_eq b 0) [
-        inl z ↦ rw (eq-eqb b 0 z) (omega (arith, l))
-      | inr d ↦ rw (ne_eqb b 0 d) (omega (arith, l)) ]
+      | inl z ↦ rw (eq-eqb b 0 z) (omega (arith, l))
+      | inr d ↦ rw (ne_eqb b 0 d) (omega (arith, l))
+    ]

@@ -19,8 +19,9 @@ module _ {X : Type 0} where
 
   pub join_then : {old mid new : List (List X)} {f g : ℕ → List X} (h : ℕ → List X) → AreJoined old mid f → AreJoined mid new g → ((b : ℕ) → b < length old → f b ++ g b ≡ h b) → AreJoined old new h
   join_then {old} {mid} {new} {f} {g} h j k e = record {
-      count = k.count ∙ j.count;
-      each = λ b l. k.each b (rw j.count l) ∙ ap (λ (ys : List X). ys ++ g b) (j.each b l) ∙ append_assoc _ (f b) (g b) ∙ ap (λ (ys : List X). slice_index_or old b [] ++ ys) (e b l) }
+    count = k.count ∙ j.count;
+    each = λ b l. k.each b (rw j.count l) ∙ ap (λ (ys : List X). ys ++ g b) (j.each b l) ∙ append_assoc _ (f b) (g b) ∙ ap (λ (ys : List X). slice_index_or old b [] ++ ys) (e b l);
+  }
 
   -- two additions at one number
   pub join_twice : (at : ℕ) (xs ys : List X) {old mid new : List (List X)} → AreJoined old mid (only_at at xs) → AreJoined mid new (only_at at ys) → AreJoined old new (only_at at (xs ++ ys))
@@ -56,8 +57,9 @@ flat_push f t xs x = rw (filter-append t xs (x ∷ []), flat_map-append f (filte
 
 home_only : (part : List ℕ) (row : Row) (b : ℕ) → only_at (home_of part row.terms) (sides_of_row part (home_of part row.terms) row) b ≡ cond (eqb (home_of part row.terms) b) (sides_of_row part b row) []
 home_only part row b = elim (cases_eq (home_of part row.terms) b) [
-      inl t ↦ subst (λ (k : ℕ). only_at (home_of part row.terms) (sides_of_row part (home_of part row.terms) row) k ≡ cond (eqb (home_of part row.terms) k) (sides_of_row part k row) []) t refl
-    | inr t ↦ rw (ne_eqb (home_of part row.terms) b t) ]
+  | inl t ↦ subst (λ (k : ℕ). only_at (home_of part row.terms) (sides_of_row part (home_of part row.terms) row) k ≡ cond (eqb (home_of part row.terms) k) (sides_of_row part k row) []) t refl
+  | inr t ↦ rw (ne_eqb (home_of part row.terms) b t)
+]
 
 pub rows_more : (part : List ℕ) (rows : List Row) (i : ℕ) (row : Row) {old mid new : List (List Ineq)} → i < length rows → row ≡ get_or rows i row → AreJoined old mid (sides_of_rows part (take i rows)) → AreJoined mid new (only_at (home_of part row.terms) (sides_of_row part (home_of part row.terms) row)) → AreJoined old new (sides_of_rows part (take (i + 1) rows))
 rows_more part rows i row l e j k = join_then _ j k (λ b m.

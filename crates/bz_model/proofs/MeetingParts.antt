@@ -49,14 +49,16 @@ module _ {X : Type 0} where
   pub all_kept : (P : X → Type 0) (t : X → Bool) (xs : List X) → AllByRecursion (λ x. t x ≡ true → P x) xs → AllByRecursion P (filter t xs)
   all_kept P t [] h = tt
   all_kept P t (x ∷ xs) h = elim (cases_Bool (t x)) [
-        inl e ↦ rw e (h.0 e, all_kept P t xs h.1)
-      | inr e ↦ rw e (all_kept P t xs h.1) ]
+    | inl e ↦ rw e (h.0 e, all_kept P t xs h.1)
+    | inr e ↦ rw e (all_kept P t xs h.1)
+  ]
 
   pub all_from_kept : (P : X → Type 0) (t : X → Bool) (xs : List X) → AllByRecursion P (filter t xs) → AllByRecursion (λ x. t x ≡ true → P x) xs
   all_from_kept P t [] h = tt
   all_from_kept P t (x ∷ xs) h = elim (cases_Bool (t x)) [
-        inl e ↦ let k = rw e at h in ((λ g. k.0), all_from_kept P t xs k.1)
-      | inr e ↦ let k = rw e at h in ((λ g. absurd (both_ways (t x) e g)), all_from_kept P t xs k) ]
+    | inl e ↦ let k = rw e at h in ((λ g. k.0), all_from_kept P t xs k.1)
+    | inr e ↦ let k = rw e at h in ((λ g. absurd (both_ways (t x) e g)), all_from_kept P t xs k)
+  ]
 
 pub all_flat : {X A : Type 0} (P : A → Type 0) (f : X → List A) (xs : List X) → AllByRecursion (λ x. AllByRecursion P (f x)) xs → AllByRecursion P (flat_map f xs)
 all_flat P f [] h = tt
@@ -108,33 +110,37 @@ module _ (part : List ℕ) (b : ℕ) (p : List ℤ) (q : ℤ) where
       let u = upper_of_row row.terms row.upper h i in
       let l = lower_of_row row.terms row.lower h i in
       let us = where_some row.upper (at_most part b row.terms) in
-      let ls = where_some row.lower (at_least part b row.terms) in
-      ((λ r. all_append _ us ls (u.0 r.at_most) (l.0 r.at_least)),
-       (λ s. record { at_least = l.1 (all_back _ us ls s); at_most = u.1 (all_front _ us ls s) }))
+      let ls = where_some row.lower (at_least part b row.terms) in (
+        (λ r. all_append _ us ls (u.0 r.at_most) (l.0 r.at_least)),
+        (λ s. record { at_least = l.1 (all_back _ us ls s); at_most = u.1 (all_front _ us ls s) }),
+      )
 
   single : (j : ℕ) (d : ℤ) → dot ((j, d) ∷ []) (coordinate p) ≡ d *ℤ coordinate p j
   single j d = omega (arith, ints)
 
   upper_of_column : (j : ℕ) (o : Option Frac) → j < length part → part_of part j ≡ b → IfSome o (λ f. (f.den *ℤ coordinate p j) ≤ℤ (f.num *ℤ q)) ↔ AllByRecursion (IneqHolds part b p q) (where_some o (λ f. at_most part b ((j, f.den) ∷ []) f.num))
   upper_of_column j None h i = ((λ k. tt), (λ k. tt))
-  upper_of_column j (Some f) h i =
-      ((λ k. (at_most_holds ((j, f.den) ∷ []) f.num (h, tt) (inr i, tt) (subst (λ (s : ℤ). s ≤ℤ (f.num *ℤ q)) (sym (single j f.den)) k), tt)),
-       (λ k. subst (λ (s : ℤ). s ≤ℤ (f.num *ℤ q)) (single j f.den) (at_most_gives ((j, f.den) ∷ []) f.num (h, tt) (inr i, tt) k.0)))
+  upper_of_column j (Some f) h i = (
+    (λ k. (at_most_holds ((j, f.den) ∷ []) f.num (h, tt) (inr i, tt) (subst (λ (s : ℤ). s ≤ℤ (f.num *ℤ q)) (sym (single j f.den)) k), tt)),
+    (λ k. subst (λ (s : ℤ). s ≤ℤ (f.num *ℤ q)) (single j f.den) (at_most_gives ((j, f.den) ∷ []) f.num (h, tt) (inr i, tt) k.0)),
+  )
 
   lower_of_column : (j : ℕ) (o : Option Frac) → j < length part → part_of part j ≡ b → IfSome o (λ f. (f.num *ℤ q) ≤ℤ (f.den *ℤ coordinate p j)) ↔ AllByRecursion (IneqHolds part b p q) (where_some o (λ f. at_least part b ((j, f.den) ∷ []) f.num))
   lower_of_column j None h i = ((λ k. tt), (λ k. tt))
-  lower_of_column j (Some f) h i =
-      ((λ k. (at_least_holds ((j, f.den) ∷ []) f.num (h, tt) (inr i, tt) (subst (λ (s : ℤ). (f.num *ℤ q) ≤ℤ s) (sym (single j f.den)) k), tt)),
-       (λ k. subst (λ (s : ℤ). (f.num *ℤ q) ≤ℤ s) (single j f.den) (at_least_gives ((j, f.den) ∷ []) f.num (h, tt) (inr i, tt) k.0)))
+  lower_of_column j (Some f) h i = (
+    (λ k. (at_least_holds ((j, f.den) ∷ []) f.num (h, tt) (inr i, tt) (subst (λ (s : ℤ). (f.num *ℤ q) ≤ℤ s) (sym (single j f.den)) k), tt)),
+    (λ k. subst (λ (s : ℤ). (f.num *ℤ q) ≤ℤ s) (single j f.den) (at_least_gives ((j, f.den) ∷ []) f.num (h, tt) (inr i, tt) k.0)),
+  )
 
   pub column_sides : (e : ℕ × Column) → e.0 < length part → part_of part e.0 ≡ b → IsWithinBounds e.1.lower e.1.upper (coordinate p e.0) q ↔ AllByRecursion (IneqHolds part b p q) (sides_of_column part b e)
   column_sides e h i =
       let u = upper_of_column e.0 e.1.upper h i in
       let l = lower_of_column e.0 e.1.lower h i in
       let us = where_some e.1.upper (λ f. at_most part b ((e.0, f.den) ∷ []) f.num) in
-      let ls = where_some e.1.lower (λ f. at_least part b ((e.0, f.den) ∷ []) f.num) in
-      ((λ r. all_append _ us ls (u.0 r.at_most) (l.0 r.at_least)),
-       (λ s. record { at_least = l.1 (all_back _ us ls s); at_most = u.1 (all_front _ us ls s) }))
+      let ls = where_some e.1.lower (λ f. at_least part b ((e.0, f.den) ∷ []) f.num) in (
+        (λ r. all_append _ us ls (u.0 r.at_most) (l.0 r.at_least)),
+        (λ s. record { at_least = l.1 (all_back _ us ls s); at_most = u.1 (all_front _ us ls s) }),
+      )
 
 -- ---- rows and columns of all parts
 -- what is known of a row: its columns are columns of the model, in the master or in its home
@@ -145,8 +151,9 @@ record IsPlacedRow (part : List ℕ) (row : Row) : Type 0 where
 pub home_within : (part : List ℕ) (es : List (ℕ × ℤ)) → home_of part es ≤ blocks_of part
 home_within part [] = omega arith
 home_within part (e ∷ es) = elim (cases_Bool (nat_lt 0 (part_of part e.0))) [
-      inl t ↦ rw t (part_within_blocks part e.0)
-    | inr t ↦ rw t (home_within part es) ]
+  | inl t ↦ rw t (part_within_blocks part e.0)
+  | inr t ↦ rw t (home_within part es)
+]
 
 module _ (m : Model) (part : List ℕ) (p : List ℤ) (q : ℤ) where
   abbrev Holds : ℕ → Ineq → Type 0
@@ -188,7 +195,8 @@ module _ (m : Model) (part : List ℕ) (p : List ℤ) (q : ℤ) where
       (all_both _ _ (λ e. e.1.integer ≡ true → IsWithinBounds e.1.lower e.1.upper (coordinate p e.0) q × IsWhole (coordinate p e.0) q) cs (all_from_kept (λ e. IsWithinBounds e.1.lower e.1.upper (coordinate p e.0) q) (λ e. e.1.integer) cs k) (all_from_kept (λ e. IsWhole (coordinate p e.0) q) (λ e. e.1.integer) cs w) (λ e f g i. (f i, g i)))
       (λ e f g. record {
         bounds = elim (cases_Bool e.1.integer) [ inl i ↦ (g i).0 | inr i ↦ f i ];
-        integer = OnTrue_from e.1.integer (IsWhole (coordinate p e.0) q) (λ i. (g i).1) })
+        integer = OnTrue_from e.1.integer (IsWhole (coordinate p e.0) q) (λ i. (g i).1);
+      })
 
 -- each row of a model that is parted has its place
 placed_rows : (m : Model) (part : List ℕ) → HasItsColumns m → length part ≡ length m.columns → AllByRecursion (λ row. IsInOneBlock part row.terms) m.rows → AllByRecursion (IsPlacedRow part) m.rows
@@ -196,22 +204,24 @@ placed_rows m part h n o = all_both _ _ _ m.rows h.rows o (λ row w i. record { 
 
 pub feasible_meets : (m : Model) (part : List ℕ) (p : List ℤ) (q : ℤ) → HasItsColumns m → IsPartition m part → AllByRecursion (λ row. IsInOneBlock part row.terms) m.rows → IsFeasible m p q → MeetsAllParts m part p q
 feasible_meets m part p q h s o f = record {
-    positive = f.positive;
-    numbers = f.numbers;
-    inequalities = λ b l. all_append _ (flat_map (sides_of_row part b) (rows_in m part b)) (flat_map (sides_of_column part b) (continuous_in m part b))
-        (rows_give m part p q m.rows b (placed_rows m part h s.numbers o) f.rows)
-        (columns_give m part p q (enumerate_from 0 m.columns) b (numbers_within 0 (length part) m.columns (omega (arith, s.numbers))) f.columns);
-    bounds = all_kept _ _ (enumerate_from 0 m.columns) (all_then _ _ _ f.columns (λ e c i. c.bounds));
-    whole = all_kept _ _ (enumerate_from 0 m.columns) (all_then _ _ _ f.columns (λ e c i. OnTrue_at i c.integer)) }
+  positive = f.positive;
+  numbers = f.numbers;
+  inequalities = λ b l. all_append _ (flat_map (sides_of_row part b) (rows_in m part b)) (flat_map (sides_of_column part b) (continuous_in m part b))
+      (rows_give m part p q m.rows b (placed_rows m part h s.numbers o) f.rows)
+      (columns_give m part p q (enumerate_from 0 m.columns) b (numbers_within 0 (length part) m.columns (omega (arith, s.numbers))) f.columns);
+  bounds = all_kept _ _ (enumerate_from 0 m.columns) (all_then _ _ _ f.columns (λ e c i. c.bounds));
+  whole = all_kept _ _ (enumerate_from 0 m.columns) (all_then _ _ _ f.columns (λ e c i. OnTrue_at i c.integer));
+}
 
 pub meeting_is_feasible : (m : Model) (part : List ℕ) (p : List ℤ) (q : ℤ) → HasItsColumns m → IsPartition m part → AllByRecursion (λ row. IsInOneBlock part row.terms) m.rows → MeetsAllParts m part p q → IsFeasible m p q
 meeting_is_feasible m part p q h s o f = record {
-    positive = f.positive;
-    numbers = f.numbers;
-    rows = give_rows m part p q m.rows (placed_rows m part h s.numbers o) (λ b l. all_front _ (flat_map (sides_of_row part b) (rows_in m part b)) (flat_map (sides_of_column part b) (continuous_in m part b)) (f.inequalities b l));
-    columns = give_columns m part p q (enumerate_from 0 m.columns)
-        (give_bounds m part p q (enumerate_from 0 m.columns) (numbers_within 0 (length part) m.columns (omega (arith, s.numbers))) (λ b l. all_back _ (flat_map (sides_of_row part b) (rows_in m part b)) (flat_map (sides_of_column part b) (continuous_in m part b)) (f.inequalities b l)))
-        f.bounds f.whole }
+  positive = f.positive;
+  numbers = f.numbers;
+  rows = give_rows m part p q m.rows (placed_rows m part h s.numbers o) (λ b l. all_front _ (flat_map (sides_of_row part b) (rows_in m part b)) (flat_map (sides_of_column part b) (continuous_in m part b)) (f.inequalities b l));
+  columns = give_columns m part p q (enumerate_from 0 m.columns)
+      (give_bounds m part p q (enumerate_from 0 m.columns) (numbers_within 0 (length part) m.columns (omega (arith, s.numbers))) (λ b l. all_back _ (flat_map (sides_of_row part b) (rows_in m part b)) (flat_map (sides_of_column part b) (continuous_in m part b)) (f.inequalities b l)))
+      f.bounds f.whole;
+}
 
 -- a point is feasible exactly where it meets every part
 pub feasible_is_meeting : (m : Model) (part : List ℕ) (p : List ℤ) (q : ℤ) → HasItsColumns m → IsPartition m part → AllByRecursion (λ row. IsInOneBlock part row.terms) m.rows → IsFeasible m p q ↔ MeetsAllParts m part p q

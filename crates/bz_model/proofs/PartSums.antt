@@ -27,8 +27,9 @@ terms_in-there part b e es h = rw (ne_eqb (part_of part e.0) b h)
 pub terms_in_within : (part : List ℕ) (b : ℕ) (es : List (ℕ × ℤ)) → AllBelow (length part) es → AllBelow (width_of part b) (terms_in part b es)
 terms_in_within part b [] h = tt
 terms_in_within part b (e ∷ es) h = elim (cases_eq (part_of part e.0) b) [
-      inl t ↦ rw (terms_in-here part b e es t) (position_within_part part b e.0 h.0 t, terms_in_within part b es h.1)
-    | inr t ↦ rw (terms_in-there part b e es t) (terms_in_within part b es h.1) ]
+  | inl t ↦ rw (terms_in-here part b e es t) (position_within_part part b e.0 h.0 t, terms_in_within part b es h.1)
+  | inr t ↦ rw (terms_in-there part b e es t) (terms_in_within part b es h.1)
+]
 
 -- ---- the sum of a part's terms at its positions
 -- the entry's share of the sum of part b
@@ -50,8 +51,9 @@ part_sum part b es f = dot (terms_in part b es) (at_part part b f)
 part_sum-cons : (part : List ℕ) (b : ℕ) (e : ℕ × ℤ) (es : List (ℕ × ℤ)) (f : ℕ → ℤ) → e.0 < length part → part_sum part b (e ∷ es) f ≡ share part f e b +ℤ part_sum part b es f
 unfolding part_sum
 part_sum-cons part b e es f h = elim (cases_eq (part_of part e.0) b) [
-      inl t ↦ rw (terms_in-here part b e es t, share-here part f e b t, column_of_position_in part b e.0 h t)
-    | inr t ↦ rw (terms_in-there part b e es t, share-there part f e b t) (sym (zero_add _)) ]
+  | inl t ↦ rw (terms_in-here part b e es t, share-here part f e b t, column_of_position_in part b e.0 h t)
+  | inr t ↦ rw (terms_in-there part b e es t, share-there part f e b t) (sym (zero_add _))
+]
 
 part_sum-nil : (part : List ℕ) (b : ℕ) (f : ℕ → ℤ) → part_sum part b [] f ≡ pos 0
 unfolding part_sum
@@ -61,8 +63,9 @@ part_sum-nil part b f = refl
 pub dot_terms_in : (part : List ℕ) (b : ℕ) (es : List (ℕ × ℤ)) (f : ℕ → ℤ) → AllBelow (length part) es → dot (terms_in part b es) (at_part part b f) ≡ dot (filter (λ e. part_of part e.0 == b) es) f
 dot_terms_in part b [] f h = refl
 dot_terms_in part b (e ∷ es) f h = elim (cases_Bool (eqb (part_of part e.0) b)) [
-      inl t ↦ rw (t, column_of_position_in part b e.0 h.0 (eqb-true (part_of part e.0) b t)) (ap (λ (s : ℤ). (e.1 *ℤ f e.0) +ℤ s) (dot_terms_in part b es f h.1))
-    | inr t ↦ rw t (dot_terms_in part b es f h.1) ]
+  | inl t ↦ rw (t, column_of_position_in part b e.0 h.0 (eqb-true (part_of part e.0) b t)) (ap (λ (s : ℤ). (e.1 *ℤ f e.0) +ℤ s) (dot_terms_in part b es f h.1))
+  | inr t ↦ rw t (dot_terms_in part b es f h.1)
+]
 
 -- a sum is the sum of the sums of all parts
 sum_of_parts : (part : List ℕ) (es : List (ℕ × ℤ)) (f : ℕ → ℤ) → AllBelow (length part) es → dot es f ≡ upto (suc (blocks_of part)) (λ b. part_sum part b es f)
@@ -70,8 +73,8 @@ sum_of_parts part [] f h = sym (upto_zeros (suc (blocks_of part)) _ (λ b l. par
 sum_of_parts part (e ∷ es) f h =
     let n = suc (blocks_of part) in
     let own : upto n (share part f e) ≡ e.1 *ℤ f e.0 =
-            upto_only n (part_of part e.0) (share part f e) (let l : part_of part e.0 ≤ blocks_of part = part_within_blocks part e.0 in omega arith) (λ b l d. share-there part f e b (λ g. d (sym g)))
-            ∙ share-here part f e (part_of part e.0) refl in
+    upto_only n (part_of part e.0) (share part f e) (let l : part_of part e.0 ≤ blocks_of part = part_within_blocks part e.0 in omega arith) (λ b l d. share-there part f e b (λ g. d (sym g)))
+    ∙ share-here part f e (part_of part e.0) refl in
     rw (sum_of_parts part es f h.1, ← own)
     (sym (upto_add n (share part f e) (λ b. part_sum part b es f))
     ∙ upto_same n _ _ (λ b l. sym (part_sum-cons part b e es f h.0)))
@@ -104,15 +107,17 @@ in_block part b (e ∷ es) f d h i =
     let more = in_block part b es f d h.1 i.1 in
     rw (part_sum-cons part b e es f h.0, part_sum-cons part 0 e es f h.0)
     (elim i.0 [
-          inl t ↦ rw (share-here part f e 0 t, share-there part f e b (λ g. d (sym g ∙ t))) (omega (arith, ints))
-        | inr t ↦ rw (share-here part f e b t, share-there part f e 0 (λ g. d (sym t ∙ g))) (omega (arith, ints)) ])
+      | inl t ↦ rw (share-here part f e 0 t, share-there part f e b (λ g. d (sym g ∙ t))) (omega (arith, ints))
+      | inr t ↦ rw (share-here part f e b t, share-there part f e 0 (λ g. d (sym t ∙ g))) (omega (arith, ints))
+    ])
 
 -- the sum of terms of the master and of part b
 pub dot_beside : (part : List ℕ) (b : ℕ) (es : List (ℕ × ℤ)) (f : ℕ → ℤ) → AllBelow (length part) es → AreIn part b es → dot (terms_in part b es) (at_part part b f) +ℤ dot (beside part b es) (at_part part 0 f) ≡ dot es f
 unfolding part_sum
 dot_beside part b es f h i = elim (cases_eq b 0) [
-      inl z ↦ subst (λ (c : ℕ). dot (terms_in part c es) (at_part part c f) +ℤ dot (beside part c es) (at_part part 0 f) ≡ dot es f) (sym z) (add_zero _ ∙ sym (in_master part es f h (subst (λ (c : ℕ). AreIn part c es) z i)))
-    | inr d ↦ rw (beside-block part b es d) (sym (in_block part b es f d h i)) ]
+  | inl z ↦ subst (λ (c : ℕ). dot (terms_in part c es) (at_part part c f) +ℤ dot (beside part c es) (at_part part 0 f) ≡ dot es f) (sym z) (add_zero _ ∙ sym (in_master part es f h (subst (λ (c : ℕ). AreIn part c es) z i)))
+  | inr d ↦ rw (beside-block part b es d) (sym (in_block part b es f d h i))
+]
 
 -- ---- the same terms the other way round
 pub dot_negated : (es : List (ℕ × ℤ)) (f : ℕ → ℤ) → dot (negated es) f ≡ neg_ℤ (dot es f)

@@ -18,8 +18,9 @@ use Rattle.bz_model.proofs.Joins.{columns_push, join_known}
 -- ---- the greatest part
 blocks_cons : (b : ℕ) (bs : List ℕ) → blocks_of (b ∷ bs) ≡ max b (blocks_of bs)
 blocks_cons b bs = elim (cases_Bool (nat_lt b (blocks_of bs))) [
-      inl t ↦ rw t (omega (arith, ltb-true b (blocks_of bs) t))
-    | inr t ↦ rw t (omega (arith, ltb-false b (blocks_of bs) t)) ]
+  | inl t ↦ rw t (omega (arith, ltb-true b (blocks_of bs) t))
+  | inr t ↦ rw t (omega (arith, ltb-false b (blocks_of bs) t))
+]
 
 pub blocks_left : (part : List ℕ) (i : ℕ) → i < length part → blocks_of (drop i part) ≡ max (get_or part i 0) (blocks_of (drop (i + 1) part))
 blocks_left part i l = ap blocks_of (left_at part i 0 l) ∙ blocks_cons (get_or part i 0) (drop (i + 1) part)
@@ -47,11 +48,13 @@ position_small part i = let l = count_by-le-length (λ c. eqb c (part_of part i)
 
 pub placed_more : (part : List ℕ) (i n : ℕ) (positions : List ℕ) {columns next : List (List ℕ)} → ArePlaced part i positions columns → i < length part → n ≡ position_of part i → AreJoined columns next (only_at (part_of part i) (i ∷ [])) → ArePlaced part (i + 1) (positions ++ n ∷ []) next
 placed_more part i n positions {columns} {next} a l e j = record {
-    count = length-append positions (n ∷ []) ∙ omega (arith, a.count);
-    each = λ k m. elim (cases_eq k i) [
-        inl t ↦ subst (λ (j : ℕ). slice_index (positions ++ n ∷ []) j ≡ position_of part j) (sym t) (subst (λ (j : ℕ). slice_index (positions ++ n ∷ []) j ≡ n) a.count (get_or-append_seam positions n [] 0) ∙ e)
-      | inr d ↦ get_or-append positions (n ∷ []) 0 k (omega (arith, a.count)) ∙ a.each k (omega arith) ];
-    lists = join_known (columns_of (take (i + 1) part)) a.lists j (λ b m. sym (columns_push part i b l)) }
+  count = length-append positions (n ∷ []) ∙ omega (arith, a.count);
+  each = λ k m. elim (cases_eq k i) [
+    | inl t ↦ subst (λ (j : ℕ). slice_index (positions ++ n ∷ []) j ≡ position_of part j) (sym t) (subst (λ (j : ℕ). slice_index (positions ++ n ∷ []) j ≡ n) a.count (get_or-append_seam positions n [] 0) ∙ e)
+    | inr d ↦ get_or-append positions (n ∷ []) 0 k (omega (arith, a.count)) ∙ a.each k (omega arith)
+  ];
+  lists = join_known (columns_of (take (i + 1) part)) a.lists j (λ b m. sym (columns_push part i b l));
+}
 
 -- ---- what is kept
 -- the list of a part that is kept is the list of its inequalities

@@ -52,24 +52,27 @@ places-there n b x xs t = rw t
 length-places : (n b : ℕ) (xs : List ℕ) → length (places n b xs) ≡ many b xs
 length-places n b [] = rw (places-nil n b, many-nil b)
 length-places n b (x ∷ xs) = elim (cases_Bool (eqb x b)) [
-      inl t ↦ rw (places-here n b x xs t, many-here b x xs t) (ap suc (length-places (n + 1) b xs))
-    | inr t ↦ rw (places-there n b x xs t, many-there b x xs t) (length-places (n + 1) b xs) ]
+  | inl t ↦ rw (places-here n b x xs t, many-here b x xs t) (ap suc (length-places (n + 1) b xs))
+  | inr t ↦ rw (places-there n b x xs t, many-there b x xs t) (length-places (n + 1) b xs)
+]
 
 -- an entry's number stands after those of the earlier entries like it
 places-at : (n b : ℕ) (xs : List ℕ) (j : ℕ) → j < length xs → get_or xs j 0 ≡ b → get_or (places n b xs) (many b (take j xs)) 0 ≡ n + j
 places-at n b [] j h e = absurd (omega arith)
 places-at n b (x ∷ xs) zero h e = rw (many-nil b, places-here n b x xs (eq-eqb x b e)) (omega arith)
 places-at n b (x ∷ xs) (suc j) h e = elim (cases_Bool (eqb x b)) [
-      inl t ↦ rw (many-here b x (take j xs) t, places-here n b x xs t, places-at (n + 1) b xs j (omega arith) e) (omega arith)
-    | inr t ↦ rw (many-there b x (take j xs) t, places-there n b x xs t, places-at (n + 1) b xs j (omega arith) e) (omega arith) ]
+  | inl t ↦ rw (many-here b x (take j xs) t, places-here n b x xs t, places-at (n + 1) b xs j (omega arith) e) (omega arith)
+  | inr t ↦ rw (many-there b x (take j xs) t, places-there n b x xs t, places-at (n + 1) b xs j (omega arith) e) (omega arith)
+]
 
 -- fewer entries are b before an entry that is b than in all
 many-before : (b : ℕ) (xs : List ℕ) (j : ℕ) → j < length xs → get_or xs j 0 ≡ b → many b (take j xs) < many b xs
 many-before b [] j h e = absurd (omega arith)
 many-before b (x ∷ xs) zero h e = rw (many-nil b, many-here b x xs (eq-eqb x b e)) (omega arith)
 many-before b (x ∷ xs) (suc j) h e = let more : many b (take j xs) < many b xs = many-before b xs j (omega arith) e in elim (cases_Bool (eqb x b)) [
-      inl t ↦ rw (many-here b x (take j xs) t, many-here b x xs t) (omega arith)
-    | inr t ↦ rw (many-there b x (take j xs) t, many-there b x xs t) more ]
+  | inl t ↦ rw (many-here b x (take j xs) t, many-here b x xs t) (omega arith)
+  | inr t ↦ rw (many-there b x (take j xs) t, many-there b x xs t) more
+]
 
 -- j is the number of the entry at place i among those that are b, counted from n
 record IsPlaced (n b : ℕ) (xs : List ℕ) (i j : ℕ) : Type 0 where
@@ -81,8 +84,9 @@ record IsPlaced (n b : ℕ) (xs : List ℕ) (i j : ℕ) : Type 0 where
 placed : (n b : ℕ) (xs : List ℕ) (i : ℕ) → i < many b xs → (j : ℕ) × IsPlaced n b xs i j
 placed n b [] i h = absurd (omega (arith, many-nil b))
 placed n b (x ∷ xs) i h = elim (cases_Bool (eqb x b)) [
-      inl t ↦ here t i h (placed (n + 1) b xs)
-    | inr t ↦ there t (placed (n + 1) b xs i (rw (← many-there b x xs t) h)) ]
+  | inl t ↦ here t i h (placed (n + 1) b xs)
+  | inr t ↦ there t (placed (n + 1) b xs i (rw (← many-there b x xs t) h))
+]
   where
     later : {i' i j : ℕ} → get_or (places n b (x ∷ xs)) i 0 ≡ get_or (places (n + 1) b xs) i' 0 → many b (x ∷ take j xs) ≡ i → IsPlaced (n + 1) b xs i' j → IsPlaced n b (x ∷ xs) i (suc j)
     later e f r = record { number = e ∙ r.number ∙ omega arith; within = omega arith; part = r.part; place = f }
@@ -134,11 +138,13 @@ length-columns_of part b = length-places 0 b part
 pub part_within_blocks : (part : List ℕ) (j : ℕ) → part_of part j ≤ blocks_of part
 part_within_blocks [] j = omega arith
 part_within_blocks (b ∷ bs) zero = elim (cases_Bool (nat_lt b (blocks_of bs))) [
-      inl t ↦ rw t (omega (arith, ltb-true b (blocks_of bs) t))
-    | inr t ↦ rw t (omega arith) ]
+  | inl t ↦ rw t (omega (arith, ltb-true b (blocks_of bs) t))
+  | inr t ↦ rw t (omega arith)
+]
 part_within_blocks (b ∷ bs) (suc j) = let l : part_of bs j ≤ blocks_of bs = part_within_blocks bs j in elim (cases_Bool (nat_lt b (blocks_of bs))) [
-      inl t ↦ rw t l
-    | inr t ↦ rw t (omega (arith, ltb-false b (blocks_of bs) t)) ]
+  | inl t ↦ rw t l
+  | inr t ↦ rw t (omega (arith, ltb-false b (blocks_of bs) t))
+]
 
 -- a part that has a column isn't empty
 pub width_positive : (part : List ℕ) (j : ℕ) → j < length part → 0 < width_of part (part_of part j)

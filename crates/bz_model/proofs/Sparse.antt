@@ -49,13 +49,14 @@ sparse_from_terms_in part b low [] k h = tt
 sparse_from_terms_in part b low (e ∷ es) k h =
     let more = sparse_from_terms_in part b (suc e.0) es k.1 h.1 in
     elim (cases_eq (part_of part e.0) b) [
-        inl t ↦
-            let up : before part b low ≤ before part b e.0 = before_grows part b low e.0 h.0.column in
-            rw (terms_in-here part b e es t, before_here part b e.0 t)
-            (record { column = up; some = h.0.some; narrow = h.0.narrow }, sparse_lower (suc (before part b e.0)) (before part b (suc e.0)) (terms_in part b es) (omega (arith, before_next part b e.0 k.0 t)) more)
+      | inl t ↦
+          let up : before part b low ≤ before part b e.0 = before_grows part b low e.0 h.0.column in
+          rw (terms_in-here part b e es t, before_here part b e.0 t)
+          (record { column = up; some = h.0.some; narrow = h.0.narrow }, sparse_lower (suc (before part b e.0)) (before part b (suc e.0)) (terms_in part b es) (omega (arith, before_next part b e.0 k.0 t)) more)
       | inr t ↦
-            let up : before part b low ≤ before part b (suc e.0) = before_grows part b low (suc e.0) (omega (arith, h.0.column)) in
-            rw (terms_in-there part b e es t) (sparse_lower (before part b low) (before part b (suc e.0)) (terms_in part b es) up more) ]
+          let up : before part b low ≤ before part b (suc e.0) = before_grows part b low (suc e.0) (omega (arith, h.0.column)) in
+          rw (terms_in-there part b e es t) (sparse_lower (before part b low) (before part b (suc e.0)) (terms_in part b es) up more)
+    ]
 
 -- the terms of a part are sparse
 pub sparse_terms_in : (part : List ℕ) (b : ℕ) (es : List (ℕ × ℤ)) → AllBelow (length part) es → IsSparse es → IsSparse (terms_in part b es)

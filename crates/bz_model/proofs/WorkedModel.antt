@@ -40,15 +40,17 @@ rows_strict (row ∷ next ∷ rest) h = absurd h
 columns_strict : (cs : List Column) → AreWorkedColumns cs → AllByRecursion (λ e. IsStrictColumn (part_of worked_part e.0) e.1) (enumerate_from 0 cs)
 columns_strict [] h = absurd h
 columns_strict (x ∷ []) h = absurd h
-columns_strict (x ∷ y ∷ []) h =
-    (record { integer = OnTrue_from x.integer _ (λ t. refl); bounded = λ z. (h.1, h.2) },
-    (record { integer = OnTrue_from y.integer _ (λ t. absurd (both_ways y.integer h.3 t)); bounded = λ z. absurd (omega arith) }, tt))
+columns_strict (x ∷ y ∷ []) h = (
+  record { integer = OnTrue_from x.integer _ (λ t. refl); bounded = λ z. (h.1, h.2) },
+  (record { integer = OnTrue_from y.integer _ (λ t. absurd (both_ways y.integer h.3 t)); bounded = λ z. absurd (omega arith) }, tt),
+)
 columns_strict (x ∷ y ∷ z ∷ rest) h = absurd h
 
 pub worked_indexes : (m : Model) → AreWorkedColumns m.columns → AreWorkedRows m.rows → m.cost ≡ (0, pos 1) ∷ (1, pos 2) ∷ [] → HasItsColumns m
 worked_indexes m c r k = let n = two_columns m.columns c in record {
-    rows = rows_below (length m.columns) m.rows n r;
-    cost = rw k (omega (arith, n), (omega (arith, n), tt)) }
+  rows = rows_below (length m.columns) m.rows n r;
+  cost = rw k (omega (arith, n), (omega (arith, n), tt));
+}
 
 used : (b : ℕ) → 0 < b → b ≤ 1 → Contains worked_part b
 used zero l h = absurd (omega arith)
@@ -60,6 +62,7 @@ worked_partition m c = let n = two_columns m.columns c in record { numbers = ome
 
 pub worked_strict : (m : Model) → AreWorkedColumns m.columns → AreWorkedRows m.rows → IsStrict m worked_part
 worked_strict m c r = let n = two_columns m.columns c in let k = one_row m.rows r in record {
-    rows = rows_strict m.rows r;
-    columns = columns_strict m.columns c;
-    small = λ b l. omega (arith, n, k, size_within m worked_part b) }
+  rows = rows_strict m.rows r;
+  columns = columns_strict m.columns c;
+  small = λ b l. omega (arith, n, k, size_within m worked_part b);
+}

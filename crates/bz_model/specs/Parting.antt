@@ -53,7 +53,7 @@ abbrev pub at_most : List ℕ → ℕ → List (ℕ × ℤ) → ℤ → Ineq
 at_most part b terms rhs = record {
   own = terms_in part b terms;
   master = (if b == 0 then [] else terms_in part 0 terms);
-  rhs = rhs
+  rhs = rhs;
 }
 
 -- `terms >= rhs` as an inequality of part b: `-terms <= -rhs`

@@ -8,8 +8,5 @@ ghost use Rattle.bz_model.specs.declared.records.Model.{Model};
 
 /// Where no row joins two blocks, a point is feasible exactly where it meets every part.
 pub fn feasible_is_meeting_all_parts()
-    ensures {
-        (m : Model) (part : List ℕ) (p : List ℤ) (q : ℤ) → HasItsColumns m → IsPartition m part → AllByRecursion (λ row. IsInOneBlock part row.terms) m.rows → IsFeasible m p q ↔ MeetsAllParts m part p q
-    }
-{
-}
+    ensures { (m : Model) (part : List ℕ) (p : List ℤ) (q : ℤ) → HasItsColumns m → IsPartition m part → AllByRecursion (λ row. IsInOneBlock part row.terms) m.rows → IsFeasible m p q ↔ MeetsAllParts m part p q }
+{}

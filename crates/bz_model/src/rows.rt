@@ -167,12 +167,6 @@ pub fn inequality_lists(
 {
     let mut lists = empty_lists(alloc, blocks as usize + 1)?;
     push_rows(alloc, part, positions, model.rows.as_slice(), &mut lists)?;
-    push_columns(
-        alloc,
-        part,
-        positions,
-        model.columns.as_slice(),
-        &mut lists,
-    )?;
+    push_columns(alloc, part, positions, model.columns.as_slice(), &mut lists)?;
     Ok(lists)
 }

@@ -22,11 +22,12 @@ loop-entry-preserved c =
     let sparse : IsSparse es = rw c.as_slice-entry-items.ensures.value c.as_slice-entry-items.ensures.sparse in
     let fits : FitsSigned w128 entry.1 = fits_signed_from_abs w128 entry.1 (narrow_at 0 es i (0, pos 0) sparse c.loop-entry-test.true) in
     elim c.if-part-column.branch [
-        then-part-column+in_ok-push w ↦
-            rw (w.entries-is, w.in_ok-push.ensures.items, to_z-of_z fits, c.requires.places.each entry.0 within)
-            (made_more c.loop-entry.entries.items _ _ _ _ (pick_here c.args.part.now c.args.b es i (0, pos 0) c.loop-entry-test.true w.if-part-column.true) c.loop-entry.invariant)
+      | then-part-column+in_ok-push w ↦
+          rw (w.entries-is, w.in_ok-push.ensures.items, to_z-of_z fits, c.requires.places.each entry.0 within)
+          (made_more c.loop-entry.entries.items _ _ _ _ (pick_here c.args.part.now c.args.b es i (0, pos 0) c.loop-entry-test.true w.if-part-column.true) c.loop-entry.invariant)
       | else-part-column w ↦
-            rw (w.entries-is, ← pick_there c.args.part.now c.args.b es i (0, pos 0) c.loop-entry-test.true w.if-part-column.false) c.loop-entry.invariant ]
+          rw (w.entries-is, ← pick_there c.args.part.now c.args.b es i (0, pos 0) c.loop-entry-test.true w.if-part-column.false) c.loop-entry.invariant
+    ]
 
 pub from_vec-requires : goal.from_vec-requires
 from_vec-requires c =
