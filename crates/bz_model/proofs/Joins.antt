@@ -11,7 +11,7 @@ use Rattle.bz_model.specs.declared.records.Column.{Column}
 use Rattle.bz_model.specs.declared.records.Ineq.{Ineq}
 use Rattle.bz_model.specs.declared.records.Row.{Row}
 use Rattle.bz_model.specs.Parting.{part_of, columns_of, home_of, sides_of_row, sides_of_column}
-use Rattle.bz_model.specs.Splits.{AreJoined, ListsAre, bounds_at, only_at, sides_of_columns, sides_of_rows}
+use Rattle.bz_model.specs.PartLists.{AreJoined, ListsAre, bounds_at, only_at, sides_of_columns, sides_of_rows}
 
 module _ {X : Type 0} where
   only_twice : (at : ℕ) (xs ys : List X) (b : ℕ) → only_at at xs b ++ only_at at ys b ≡ only_at at (xs ++ ys) b

@@ -10,7 +10,8 @@ use Rattle.std.proofs.lemmas.List.Sums.{count_by-le-length}
 use Rattle.bz_model.specs.declared.records.Ineq.{Ineq}
 use Rattle.bz_model.specs.declared.records.Model.{Model}
 use Rattle.bz_model.specs.Parting.{part_of, blocks_of, columns_of, position_of, inequalities_of}
-use Rattle.bz_model.specs.Splits.{AreJoined, ArePositions, IsKept, ListsAre, only_at}
+use Rattle.bz_model.specs.PartLists.{AreJoined, ArePositions, ListsAre, only_at}
+use Rattle.bz_model.specs.Splits.{IsKept}
 use Rattle.bz_model.proofs.Positions.{part_within_blocks, length-columns_of}
 use Rattle.bz_model.proofs.Sparse.{left_at}
 use Rattle.bz_model.proofs.Joins.{columns_push, join_known}

@@ -1,5 +1,6 @@
 pub mod Meeting
 pub mod Parting
+pub mod PartLists
 pub mod Points
 pub mod Splits
 pub mod Strict

@@ -1,6 +1,6 @@
 //! Lists that grow at their ends.
 ghost use Rattle.std.specs.Prelude.{◌≡◌, ◌<◌, ◌∷◌, ◌++◌, [], IfOk, length, replicate};
-ghost use Rattle.bz_model.specs.Splits.{AreJoined, only_at};
+ghost use Rattle.bz_model.specs.PartLists.{AreJoined, only_at};
 
 use std::alloc::{AllocError, Global};
 use std::marker::Model;

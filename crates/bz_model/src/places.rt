@@ -1,7 +1,7 @@
 //! The columns of each part, and the position of each column.
 ghost use Rattle.std.specs.Prelude.{◌≡◌, suc, ◌<◌, ◌^◌, IfOk, length};
 ghost use Rattle.bz_model.specs.Parting.{blocks_of, columns_of};
-ghost use Rattle.bz_model.specs.Splits.{ArePositions, ListsAre};
+ghost use Rattle.bz_model.specs.PartLists.{ArePositions, ListsAre};
 
 use crate::growing::{Growing, empty_lists, push_at};
 use std::alloc::{AllocError, Global};

@@ -4,7 +4,7 @@ ghost use Rattle.std.specs.List.{AllByRecursion, enumerate_from};
 ghost use Rattle.bz_algebra.specs.Numbers.{IsNarrow};
 ghost use Rattle.bz_algebra.specs.Sums.{AllBelow};
 ghost use Rattle.bz_model.specs.Parting.{at_least, at_most, blocks_of, home_of, inequalities_of, part_of, sides_of_row, where_some};
-ghost use Rattle.bz_model.specs.Splits.{AreJoined, ArePositions, ListsAre, bounds_at, only_at, sides_of_columns, sides_of_rows};
+ghost use Rattle.bz_model.specs.PartLists.{AreJoined, ArePositions, ListsAre, bounds_at, only_at, sides_of_columns, sides_of_rows};
 ghost use Rattle.bz_model.specs.Strict.{HasItsColumns, IsPartition};
 
 use crate::growing::{Growing, empty_lists};

@@ -5,7 +5,7 @@ ghost use Rattle.std.specs.Option.{ForSome};
 ghost use Rattle.bz_algebra.specs.Numbers.{IsNarrow};
 ghost use Rattle.bz_algebra.specs.Sums.{AllBelow};
 ghost use Rattle.bz_model.specs.Parting.{at_least, at_most, home_of, negated, sides_of_column, sides_of_row, terms_in, where_some};
-ghost use Rattle.bz_model.specs.Splits.{AreJoined, ArePositions, only_at};
+ghost use Rattle.bz_model.specs.PartLists.{AreJoined, ArePositions, only_at};
 
 use crate::growing::{Growing, push_at};
 use crate::records::{Column, Ineq, Row};

@@ -1,6 +1,6 @@
 use Rattle.std.proofs.Common.{take}
 use Rattle.std.specs.List.{enumerate_from}
-use Rattle.bz_model.specs.Splits.{AreJoined, sides_of_columns}
+use Rattle.bz_model.specs.PartLists.{AreJoined, sides_of_columns}
 use Rattle.bz_model.proofs.rows.push_columns.Given as goal
 
 abbrev pub invariant-loop-number : goal.invariant-loop-number

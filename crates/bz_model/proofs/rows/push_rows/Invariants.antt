@@ -1,5 +1,5 @@
 use Rattle.std.proofs.Common.{take}
-use Rattle.bz_model.specs.Splits.{AreJoined, sides_of_rows}
+use Rattle.bz_model.specs.PartLists.{AreJoined, sides_of_rows}
 use Rattle.bz_model.proofs.rows.push_rows.Given as goal
 
 abbrev pub invariant-loop-row : goal.invariant-loop-row
