@@ -1,19 +1,18 @@
 -- What each inequality of a part speaks of: positions of the part and of the master.
-use Rattle.std.specs.Prelude.{ℕ, ◌+◌, ◌*◌, ◌<◌, ◌≤◌, ◌≡◌, Bool, true, false, not, ◌&&◌, eqb, ℤ, neg_ℤ, List, [], ◌∷◌, ◌++◌, length, filter, Option, Some, None, ◌==◌}
+use Rattle.std.specs.Prelude.{ℕ, ◌+◌, ◌*◌, ◌<◌, ◌≤◌, ◌≡◌, Bool, not, ◌&&◌, ℤ, neg_ℤ, List, [], ◌∷◌, length, filter, Option, Some, None, ◌==◌}
 use Rattle.std.specs.List.{AllByRecursion, enumerate_from, flat_map}
-use Rattle.std.proofs.Common.{refl, ap, sym, ◌∙◌, arith, inl, inr}
+use Rattle.std.proofs.Common.{refl, arith, inl, inr}
 use Rattle.std.proofs.lemmas.Bool.{cases_Bool, cases_eq, eq-eqb, ne_eqb}
 use Rattle.std.proofs.lemmas.List.{length-append}
 use Rattle.std.proofs.lemmas.List.FromFn.{length-enumerate_from}
 use Rattle.std.proofs.lemmas.List.Sums.{count_by-le-length, length-filter}
 use Rattle.bz_algebra.specs.Numbers.{IsNarrow}
 use Rattle.bz_algebra.specs.Sums.{AllBelow}
-use Rattle.bz_num.specs.declared.Frac.{Frac}
 use Rattle.bz_model.specs.declared.records.Column.{Column}
 use Rattle.bz_model.specs.declared.records.Ineq.{Ineq}
 use Rattle.bz_model.specs.declared.records.Model.{Model}
 use Rattle.bz_model.specs.declared.records.Row.{Row}
-use Rattle.bz_model.specs.Parting.{part_of, home_of, integers_of, width_of, terms_in, negated, at_most, at_least, where_some, sides_of_row, sides_of_column, rows_in, continuous_in, inequalities_of}
+use Rattle.bz_model.specs.Parting.{part_of, home_of, integers_of, width_of, negated, at_most, at_least, where_some, sides_of_row, sides_of_column, rows_in, continuous_in, inequalities_of}
 use Rattle.bz_model.specs.Splits.{FitsPart}
 use Rattle.bz_model.specs.Strict.{HasItsColumns, size_of}
 use Rattle.bz_model.proofs.MeetingParts.{all_append, all_then, all_kept, all_flat, all_of, numbers_within}

@@ -1,10 +1,9 @@
 -- A point is feasible exactly where it meets every part.
-use Rattle.std.specs.Prelude.{ℕ, zero, suc, ◌+◌, ◌<◌, ◌≤◌, ◌≡◌, ◌⊎◌, ◌↔◌, Bool, true, false, not, ◌&&◌, cond, eqb, nat_lt, ℤ, pos, ◌+ℤ◌, ◌*ℤ◌, ◌≤ℤ◌, ◌<ℤ◌, neg_ℤ, List, [], ◌∷◌, ◌++◌, length, filter, Option, Some, None, IfSome, ◌==◌}
-use Rattle.std.specs.Bool.{OnTrue}
+use Rattle.std.specs.Prelude.{ℕ, ◌+◌, ◌<◌, ◌≤◌, ◌≡◌, ◌↔◌, Bool, true, false, not, ◌&&◌, nat_lt, ℤ, ◌+ℤ◌, ◌*ℤ◌, ◌≤ℤ◌, neg_ℤ, List, [], ◌∷◌, ◌++◌, length, filter, Option, Some, None, IfSome, ◌==◌}
 use Rattle.std.specs.List.{AllByRecursion, enumerate_from, flat_map}
-use Rattle.std.proofs.Common.{refl, ap, sym, subst, ◌∙◌, arith, inl, inr}
+use Rattle.std.proofs.Common.{refl, sym, subst, arith, inl, inr}
 use Rattle.std.proofs.lemmas.Int.{ints}
-use Rattle.std.proofs.lemmas.Bool.{cases_Bool, cases_eq, eq-eqb, eqb-true, ne_eqb, OnTrue_at, OnTrue_from, and_parts, and_from, not-true, not_from_false, false≢true, both_ways}
+use Rattle.std.proofs.lemmas.Bool.{cases_Bool, eq-eqb, eqb-true, OnTrue_at, OnTrue_from, and_parts, and_from, not_from_false, both_ways}
 use Rattle.bz_algebra.specs.Sums.{dot, AllBelow}
 use Rattle.bz_algebra.proofs.Ring.{neg_mul}
 use Rattle.bz_model.specs.declared.records.Column.{Column}
@@ -13,11 +12,11 @@ use Rattle.bz_model.specs.declared.records.Model.{Model}
 use Rattle.bz_model.specs.declared.records.Row.{Row}
 use Rattle.bz_num.specs.declared.Frac.{Frac}
 use Rattle.bz_model.specs.Meeting.{MeetsAllParts}
-use Rattle.bz_model.specs.Parting.{part_of, blocks_of, column_at, width_of, terms_in, home_of, negated, at_most, at_least, where_some, sides_of_row, sides_of_column, rows_in, continuous_in, integers_of, inequalities_of, IneqHolds}
+use Rattle.bz_model.specs.Parting.{part_of, blocks_of, terms_in, home_of, negated, at_most, at_least, where_some, sides_of_row, sides_of_column, rows_in, continuous_in, IneqHolds}
 use Rattle.bz_model.specs.Points.{coordinate, RowHolds, IsWithinBounds, IsWhole, ColumnHolds, IsFeasible}
 use Rattle.bz_model.specs.Strict.{HasItsColumns, IsPartition, IsInOneBlock}
 use Rattle.bz_model.proofs.Positions.{part_within_blocks}
-use Rattle.bz_model.proofs.PartSums.{at_part, AreIn, beside, dot_beside, dot_negated, negated_within, negated_in, terms_in_within}
+use Rattle.bz_model.proofs.PartSums.{at_part, AreIn, beside, dot_beside, dot_negated, negated_within, negated_in}
 
 -- ---- lists of facts
 module _ {X : Type 0} where

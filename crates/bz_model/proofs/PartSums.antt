@@ -1,15 +1,13 @@
 -- A sum over columns, part by part: the sums over the positions of each part.
-use Rattle.std.specs.Prelude.{ℕ, zero, suc, ◌+◌, ◌<◌, ◌≤◌, ◌≡◌, ◌⊎◌, Bool, true, false, cond, eqb, ℤ, pos, ◌+ℤ◌, ◌*ℤ◌, neg_ℤ, List, [], ◌∷◌, length, filter, map, if◌then◌else◌, ◌==◌}
+use Rattle.std.specs.Prelude.{ℕ, suc, ◌<◌, ◌≤◌, ◌≡◌, ◌⊎◌, cond, eqb, ℤ, pos, ◌+ℤ◌, ◌*ℤ◌, neg_ℤ, List, [], ◌∷◌, length, filter, if◌then◌else◌, ◌==◌}
 use Rattle.std.specs.List.{AllByRecursion}
 use Rattle.std.proofs.Common.{refl, ap, sym, subst, ◌∙◌, arith, inl, inr}
 use Rattle.std.proofs.lemmas.Int.{ints}
-use Rattle.std.proofs.lemmas.Bool.{cases_Bool, cases_eq, eq-eqb, eqb-true, eqb-false, ne_eqb}
-use Rattle.std.proofs.Math.IntN.{+ℤ_assoc}
+use Rattle.std.proofs.lemmas.Bool.{cases_Bool, cases_eq, eq-eqb, eqb-true, ne_eqb}
 use Rattle.bz_algebra.specs.Sums.{dot, coef, upto, AllBelow}
-use Rattle.bz_algebra.proofs.Ring.{mul_neg, neg_mul, add_zero, zero_add}
+use Rattle.bz_algebra.proofs.Ring.{neg_mul, add_zero, zero_add}
 use Rattle.bz_algebra.proofs.SumLemmas.{upto_add, upto_only, upto_zeros, upto_same}
 use Rattle.bz_model.specs.Parting.{part_of, blocks_of, column_at, width_of, position_of, terms_in, negated}
-use Rattle.bz_model.specs.Strict.{IsInOneBlock}
 use Rattle.bz_model.proofs.Positions.{column_at_is, column_of_position_in, position_within_part, part_within_blocks}
 
 -- what f gives at the columns of a part, by position
@@ -140,8 +138,9 @@ mark k v j = cond (eqb k j) v (pos 0)
 mark-same : (k l : ℕ) (v : ℤ) (i j : ℕ) → (k ≡ i → l ≡ j) → (l ≡ j → k ≡ i) → mark k v i ≡ mark l v j
 unfolding mark
 mark-same k l v i j f g = elim (cases_eq k i) [
-      inl t ↦ rw (eq-eqb k i t, eq-eqb l j (f t))
-    | inr d ↦ rw (ne_eqb k i d, ne_eqb l j (λ t. d (g t))) ]
+  | inl t ↦ rw (eq-eqb k i t, eq-eqb l j (f t))
+  | inr d ↦ rw (ne_eqb k i d, ne_eqb l j (λ t. d (g t)))
+]
 
 mark-off : (k : ℕ) (v : ℤ) (j : ℕ) → (k ≡ j → ⊥) → mark k v j ≡ pos 0
 unfolding mark
@@ -158,7 +157,8 @@ coef_terms_in part b (e ∷ es) i h l =
     let at = column_at_is part b i l in
     let more = coef_terms_in part b es i h.1 l in
     rw (coef-cons e es (column_at part b i)) (elim (cases_eq (part_of part e.0) b) [
-        inl t ↦
-            rw (terms_in-here part b e es t, coef-cons (position_of part e.0, e.1) (terms_in part b es) i, more, mark-same (position_of part e.0) e.0 e.1 i (column_at part b i) (λ g. sym (column_of_position_in part b e.0 h.0 t) ∙ ap (column_at part b) g) (λ g. ap (position_of part) g ∙ at.position))
+      | inl t ↦
+          rw (terms_in-here part b e es t, coef-cons (position_of part e.0, e.1) (terms_in part b es) i, more, mark-same (position_of part e.0) e.0 e.1 i (column_at part b i) (λ g. sym (column_of_position_in part b e.0 h.0 t) ∙ ap (column_at part b) g) (λ g. ap (position_of part) g ∙ at.position))
       | inr d ↦
-            rw (terms_in-there part b e es d, more, mark-off e.0 e.1 (column_at part b i) (λ g. d (ap (part_of part) g ∙ at.part_is))) (sym (zero_add _)) ])
+          rw (terms_in-there part b e es d, more, mark-off e.0 e.1 (column_at part b i) (λ g. d (ap (part_of part) g ∙ at.part_is))) (sym (zero_add _))
+    ])

@@ -1,16 +1,15 @@
 -- The lists of the parts' columns while columns are added one by one.
-use Rattle.std.specs.Prelude.{ℕ, zero, suc, ◌+◌, ◌<◌, ◌≤◌, ◌≡◌, max, Bool, true, false, cond, eqb, nat_lt, List, [], ◌∷◌, ◌++◌, length, take, drop, get_or, slice_index, slice_index_or, replicate}
-use Rattle.std.proofs.Common.{refl, ap, sym, subst, ◌∙◌, arith, inl, inr, add-one, append-nil}
+use Rattle.std.specs.Prelude.{ℕ, suc, ◌+◌, ◌<◌, ◌≤◌, ◌≡◌, max, eqb, nat_lt, List, [], ◌∷◌, ◌++◌, length, take, drop, get_or, slice_index, slice_index_or}
+use Rattle.std.proofs.Common.{ap, sym, subst, ◌∙◌, arith, inl, inr}
 use Rattle.std.proofs.Math.Seq.{get_or-append_seam}
 use Rattle.std.proofs.Math.ListN.{get_or-append}
 use Rattle.std.proofs.lemmas.Bool.{cases_Bool, cases_eq, ltb-true, ltb-false}
-use Rattle.std.proofs.lemmas.Grind.{common_steps}
 use Rattle.std.proofs.lemmas.List.{get_or_default, length-append, length-take}
 use Rattle.std.proofs.lemmas.List.Sums.{count_by-le-length}
 use Rattle.bz_model.specs.declared.records.Ineq.{Ineq}
 use Rattle.bz_model.specs.declared.records.Model.{Model}
 use Rattle.bz_model.specs.Parting.{part_of, blocks_of, columns_of, position_of, inequalities_of}
-use Rattle.bz_model.specs.PartLists.{AreJoined, ArePositions, ListsAre, only_at}
+use Rattle.bz_model.specs.PartLists.{AreJoined, ListsAre, only_at}
 use Rattle.bz_model.specs.Splits.{IsKept}
 use Rattle.bz_model.proofs.Positions.{part_within_blocks, length-columns_of}
 use Rattle.bz_model.proofs.Sparse.{left_at}

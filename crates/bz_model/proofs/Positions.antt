@@ -1,8 +1,8 @@
 -- The columns of a part and their positions: each column of a part stands at its position, and each position holds a
 -- column of the part.
-use Rattle.std.specs.Prelude.{ℕ, zero, suc, ◌+◌, ◌<◌, ◌≤◌, ◌≡◌, ◌⊎◌, Bool, true, false, cond, eqb, nat_lt, List, [], ◌∷◌, length, take, filter, map, count_by, get_or, slice_index}
+use Rattle.std.specs.Prelude.{ℕ, zero, suc, ◌+◌, ◌<◌, ◌≤◌, ◌≡◌, true, false, cond, eqb, nat_lt, List, [], ◌∷◌, length, take, filter, map, count_by, get_or}
 use Rattle.std.specs.List.{enumerate_from}
-use Rattle.std.proofs.Common.{refl, ap, sym, ◌∙◌, arith, inl, inr}
+use Rattle.std.proofs.Common.{refl, ap, ◌∙◌, arith, inl, inr}
 use Rattle.std.proofs.lemmas.Bool.{cases_Bool, eq-eqb, eqb-true, ltb-true, ltb-false}
 use Rattle.std.proofs.lemmas.List.Sums.{sum_by-cons}
 use Rattle.bz_model.specs.Parting.{part_of, blocks_of, columns_of, column_at, width_of, position_of}

@@ -1,15 +1,15 @@
 -- Rows that are picked from sparse rows are sparse, and what a loop over a row's terms has picked.
-use Rattle.std.specs.Prelude.{ℕ, zero, suc, ◌+◌, ◌<◌, ◌≤◌, ◌≡◌, Bool, true, false, eqb, cond, ℤ, pos, neg_ℤ, ◌<ℤ◌, List, [], ◌∷◌, ◌++◌, length, take, drop, count_by, get_or, nat_lt}
+use Rattle.std.specs.Prelude.{ℕ, zero, suc, ◌+◌, ◌<◌, ◌≤◌, ◌≡◌, Bool, eqb, cond, ℤ, pos, neg_ℤ, ◌<ℤ◌, List, [], ◌∷◌, ◌++◌, length, take, drop, count_by, get_or}
 use Rattle.std.specs.Int.RustNames.{unsigned_abs}
-use Rattle.std.proofs.Common.{refl, ap, sym, ◌∙◌, arith, inl, inr, add-one, append_assoc, append-nil}
+use Rattle.std.proofs.Common.{ap, sym, ◌∙◌, arith, inl, inr, add-one, append_assoc, append-nil}
 use Rattle.std.proofs.Math.Seq.{drop-cons}
 use Rattle.std.proofs.Math.ListN.{drop_of_length-le}
 use Rattle.std.proofs.lemmas.Int.{ints}
-use Rattle.std.proofs.lemmas.Bool.{cases_Bool, cases_eq, eq-eqb, ne_eqb, lt-ltb, le-ltb}
+use Rattle.std.proofs.lemmas.Bool.{cases_eq, eq-eqb, lt-ltb, le-ltb}
 use Rattle.std.proofs.lemmas.List.Sums.{count_by_more_yes, sum_by-cons}
 use Rattle.bz_algebra.specs.Numbers.{IsNarrow}
 use Rattle.bz_algebra.specs.Sums.{AllBelow}
-use Rattle.bz_num.specs.Row.{IsEntryFrom, IsSparse, IsSparseFrom}
+use Rattle.bz_num.specs.Row.{IsSparse, IsSparseFrom}
 use Rattle.bz_model.specs.Parting.{part_of, position_of, terms_in, home_of, negated}
 use Rattle.bz_model.proofs.PartSums.{terms_in-here, terms_in-there}
 

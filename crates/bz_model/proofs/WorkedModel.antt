@@ -1,5 +1,5 @@
 -- The worked model of the tests is strict.
-use Rattle.std.specs.Prelude.{ℕ, zero, suc, ◌+◌, ◌*◌, ◌<◌, ◌≤◌, ◌≡◌, ℤ, pos, IsTrue, IsFalse, IsSome, Contains, List, [], ◌∷◌, length}
+use Rattle.std.specs.Prelude.{ℕ, zero, suc, ◌<◌, ◌≤◌, ◌≡◌, pos, Contains, List, [], ◌∷◌, length}
 use Rattle.std.specs.List.{AllByRecursion, enumerate_from}
 use Rattle.std.proofs.Common.{refl, arith, inl, inr}
 use Rattle.std.proofs.lemmas.Bool.{OnTrue_from, both_ways}
@@ -7,7 +7,7 @@ use Rattle.bz_algebra.specs.Sums.{AllBelow}
 use Rattle.bz_model.specs.declared.records.Column.{Column}
 use Rattle.bz_model.specs.declared.records.Model.{Model}
 use Rattle.bz_model.specs.declared.records.Row.{Row}
-use Rattle.bz_model.specs.Parting.{blocks_of, part_of}
+use Rattle.bz_model.specs.Parting.{part_of}
 use Rattle.bz_model.specs.Strict.{HasItsColumns, IsInOneBlock, IsPartition, IsStrict, IsStrictColumn}
 use Rattle.bz_model.specs.Worked.{AreWorkedColumns, AreWorkedRows}
 use Rattle.bz_model.proofs.Inequalities.{size_within}

@@ -1,5 +1,5 @@
 -- The worked model of the tests: columns x, an integer, and y; one row x + y; x in the master and y in block 1.
-use Rattle.std.specs.Prelude.{ℕ, ℤ, pos, ◌≡◌, IsTrue, IsFalse, List, [], ◌∷◌, IsSome}
+use Rattle.std.specs.Prelude.{pos, ◌≡◌, IsTrue, IsFalse, List, [], ◌∷◌, IsSome}
 use Rattle.bz_model.specs.declared.records.Column.{Column}
 use Rattle.bz_model.specs.declared.records.Row.{Row}
 

@@ -1,4 +1,4 @@
-use Rattle.std.proofs.Common.{◌≡◌, ◌≤◌, ◌<◌, length, arith, sym, ◌∙◌, ap}
+use Rattle.std.proofs.Common.{◌≡◌, ◌≤◌, ◌<◌, length, arith, ◌∙◌, ap}
 use Rattle.bz_model.specs.Parting.{part_of, position_of}
 use Rattle.bz_model.proofs.Placing.{placed_length, placed_more, placed_room, position_small}
 use Rattle.bz_model.proofs.places.find_places.Goals as goal

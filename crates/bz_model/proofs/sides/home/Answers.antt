@@ -1,5 +1,5 @@
-use Rattle.std.proofs.Common.{rules, ℕ, ℤ, pos}
-use Rattle.bz_model.proofs.Sparse.{below_at, home_here, home_there}
+use Rattle.std.proofs.Common.{pos}
+use Rattle.bz_model.proofs.Sparse.{below_at}
 use Rattle.bz_model.proofs.sides.home.Goals as goal
 
 pub bounds-part-entry : goal.bounds-part-entry

@@ -1,4 +1,4 @@
-use Rattle.std.proofs.Common.{◌≡◌, sym, ℕ, ℤ, pos, refl, FitsSigned, to_z-of_z, get_or}
+use Rattle.std.proofs.Common.{pos, refl, to_z-of_z, get_or}
 use Rattle.std.specs.Int.{w128}
 use Rattle.std.proofs.lemmas.Int.{fits_signed_from_abs}
 use Rattle.bz_algebra.specs.Numbers.{IsNarrow}

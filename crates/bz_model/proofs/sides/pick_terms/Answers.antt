@@ -1,4 +1,4 @@
-use Rattle.std.proofs.Common.{◌≡◌, ◌++◌, ◌<◌, length, sym, ◌∙◌, ap, refl, ℕ, ℤ, pos, arith, get_or, FitsSigned, to_z-of_z}
+use Rattle.std.proofs.Common.{◌<◌, length, refl, pos, arith, get_or, FitsSigned, to_z-of_z}
 use Rattle.std.specs.Int.{w128}
 use Rattle.std.proofs.lemmas.Int.{fits_signed_from_abs}
 use Rattle.bz_num.specs.Row.{IsSparse}

@@ -1,4 +1,4 @@
-use Rattle.std.proofs.Common.{◌≡◌, ◌≤◌, subst, sym}
+use Rattle.std.proofs.Common.{◌≤◌, subst, sym}
 use Rattle.std.specs.List.{AllByRecursion}
 use Rattle.bz_model.specs.Parting.{blocks_of}
 use Rattle.bz_model.specs.Splits.{Decomposition, FitsPart, IsSplit}
