@@ -6,3 +6,4 @@ pub mod Numbered
 pub mod Optimality
 pub mod PointsOfParts
 pub mod Sides
+pub mod SomePoint
