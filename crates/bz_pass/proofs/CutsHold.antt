@@ -1,10 +1,8 @@
 -- A valid cut holds at every feasible point, with the block's inner cost there as its eta.
-use Rattle.std.specs.Prelude.{ℕ, zero, suc, ◌+◌, ◌<◌, ◌≤◌, ◌≡◌, Bool, true, false, ℤ, pos, ◌+ℤ◌, ◌*ℤ◌, ◌≤ℤ◌, ◌<ℤ◌, neg_ℤ, List, length, if◌then◌else◌}
+use Rattle.std.specs.Prelude.{ℕ, suc, ◌≡◌, Bool, true, false, ℤ, ◌+ℤ◌, ◌*ℤ◌, ◌≤ℤ◌, neg_ℤ, List, length, if◌then◌else◌}
 use Rattle.std.specs.List.{AllByRecursion}
-use Rattle.std.proofs.Common.{refl, ap, sym, subst, ◌∙◌, arith}
-use Rattle.std.proofs.lemmas.Int.{ints}
+use Rattle.std.proofs.Common.{sym, subst, ◌∙◌}
 use Rattle.bz_algebra.specs.Sums.{dot, coef, upto, AllBelow}
-use Rattle.bz_model.specs.declared.Ineq.{Ineq}
 use Rattle.bz_model.specs.declared.Model.{Model}
 use Rattle.bz_model.specs.Meeting.{MeetsAllParts}
 use Rattle.bz_model.specs.Parting.{blocks_of, width_of, terms_in, negated, inequalities_of, inner_cost}
@@ -18,7 +16,7 @@ use Rattle.bz_pass.specs.declared.records.Cut.{Cut}
 use Rattle.bz_pass.specs.Cuts.{IsValid}
 use Rattle.bz_pass.proofs.Fractional.{divided}
 use Rattle.bz_pass.proofs.Numbered.{upto_first}
-use Rattle.bz_pass.proofs.Sides.{FitsIn, HoldsAt, sum_holds, upto_multiple, upto_multiple_neg}
+use Rattle.bz_pass.proofs.Sides.{FitsIn, sum_holds, upto_multiple, upto_multiple_neg}
 
 -- the model may be solved by the partition
 pub record IsDecomposed (m : Model) (part : List ℕ) : Type 0 where
@@ -62,13 +60,13 @@ pub cut_holds : (m : Model) (part : List ℕ) (cut : Cut) (p : List ℤ) (q : �
 cut_holds m part cut p q d v f =
     divided cut.gcd cut.p0 (cost_of_part m part p cut.block) (dot cut.alpha y) cut.beta q v.gcd
     (rw (← own_sum, ← master_sum)
-      (sum_holds (width_of part cut.block) (width_of part 0) (inequalities_of m part cut.block) cut.mu x y
-        (λ i. neg_ℤ ((cut.gcd *ℤ cut.p0) *ℤ coef (terms_in part cut.block (inner_cost m)) i))
-        (λ j. cut.gcd *ℤ coef cut.alpha j)
-        q (cut.gcd *ℤ cut.beta)
-        (part_fits m part cut.block d)
-        (f.inequalities cut.block v.block.1)
-        v.mu v.own v.master v.rhs))
+    (sum_holds (width_of part cut.block) (width_of part 0) (inequalities_of m part cut.block) cut.mu x y
+    (λ i. neg_ℤ ((cut.gcd *ℤ cut.p0) *ℤ coef (terms_in part cut.block (inner_cost m)) i))
+    (λ j. cut.gcd *ℤ coef cut.alpha j)
+    q (cut.gcd *ℤ cut.beta)
+    (part_fits m part cut.block d)
+    (f.inequalities cut.block v.block.1)
+    v.mu v.own v.master v.rhs))
   where
     x : ℕ → ℤ
     x = at_part part cut.block (coordinate p)

@@ -1,12 +1,12 @@
 -- Whole numbers over denominators: what an inequality over one denominator says over another.
-use Rattle.std.specs.Prelude.{ℕ, pos, ◌≡◌, ℤ, ◌+ℤ◌, ◌-ℤ◌, ◌*ℤ◌, ◌≤ℤ◌, ◌<ℤ◌, neg_ℤ, Option, Some, None, IfSome, IsSome}
-use Rattle.std.proofs.Common.{refl, ap, sym, subst, ◌∙◌, arith}
+use Rattle.std.specs.Prelude.{pos, ◌≡◌, ℤ, ◌+ℤ◌, ◌-ℤ◌, ◌*ℤ◌, ◌≤ℤ◌, ◌<ℤ◌, neg_ℤ, Option, Some, None, IfSome, IsSome}
+use Rattle.std.proofs.Common.{ap, sym, ◌∙◌, arith}
 use Rattle.std.proofs.lemmas.Int.{ints}
 use Rattle.std.proofs.lemmas.Bool.{false≢true}
 use Rattle.std.proofs.Math.IntN.{*ℤ_comm}
-use Rattle.bz_algebra.proofs.Ring.{*ℤ_assoc, mul_add, add_mul, sub_mul, mul_neg, neg_mul, mul_left, mul_right, mul_positive, mul_le_left, mul_le_right, mul_lt_right, cancel_le_left, cancel_le_right, cancel_lt_right, cancel_right, positive-ne}
+use Rattle.bz_algebra.proofs.Ring.{*ℤ_assoc, mul_add, add_mul, mul_neg, neg_mul, mul_left, mul_right, mul_positive, mul_le_left, mul_le_right, cancel_le_left, cancel_le_right, cancel_lt_right, cancel_right, positive-ne}
 use Rattle.bz_num.specs.declared.Frac.{Frac}
-use Rattle.bz_model.specs.Points.{IsWhole, IsWithinBounds}
+use Rattle.bz_model.specs.Points.{IsWhole}
 use Rattle.bz_pass.specs.Boxes.{IsFloor, IsCeiling}
 
 -- ---- o / q is v / d

@@ -7,3 +7,4 @@ pub mod Optimality
 pub mod PointsOfParts
 pub mod Sides
 pub mod SomePoint
+pub mod WorkedExample

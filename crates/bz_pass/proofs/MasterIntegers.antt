@@ -1,8 +1,7 @@
 -- The integer columns are master columns with two bounds, and every feasible point lies in the box of the whole model.
-use Rattle.std.specs.Prelude.{ℕ, zero, suc, ◌<◌, ◌≤◌, ◌≡◌, Bool, true, false, ℤ, pos, ◌*ℤ◌, ◌≤ℤ◌, ◌<ℤ◌, List, length, IsSome}
-use Rattle.std.specs.Bool.{OnTrue}
+use Rattle.std.specs.Prelude.{ℕ, ◌<◌, ◌≡◌, true, ℤ, List, length, IsSome}
 use Rattle.std.specs.List.{AllByRecursion, enumerate_from}
-use Rattle.std.proofs.Common.{refl, ap, sym, ◌∙◌, arith}
+use Rattle.std.proofs.Common.{arith}
 use Rattle.std.proofs.lemmas.Bool.{OnTrue_at}
 use Rattle.bz_model.specs.declared.Column.{Column}
 use Rattle.bz_model.specs.declared.Model.{Model}
@@ -31,14 +30,15 @@ bounded part e l s t =
       position = position_within_part part 0 e.0 l home;
       column = column_of_position_in part 0 e.0 l home;
       lower = (s.bounded home).0;
-      upper = (s.bounded home).1 }
+      upper = (s.bounded home).1;
+    }
 
 pub integers_bounded : (m : Model) (part : List ℕ) → IsDecomposed m part → AllByRecursion (IsBoundedInMaster part) (integers_of m)
 integers_bounded m part d = all_kept (IsBoundedInMaster part) (λ e. e.1.integer) (enumerate_from 0 m.columns)
     (all_both (λ e. e.0 < length part) (λ e. IsStrictColumn (part_of part e.0) e.1) (λ e. e.1.integer ≡ true → IsBoundedInMaster part e) (enumerate_from 0 m.columns)
-      (numbers_within 0 (length part) m.columns (omega (arith, d.partition.numbers)))
-      d.strict.columns
-      (λ e l s t. bounded part e l s t))
+    (numbers_within 0 (length part) m.columns (omega (arith, d.partition.numbers)))
+    d.strict.columns
+    (λ e l s t. bounded part e l s t))
 
 -- an integer column with what is known of it at a feasible point
 record IsIntegerAt (part : List ℕ) (p : List ℤ) (q : ℤ) (e : ℕ × Column) : Type 0 where
@@ -55,9 +55,10 @@ integers_at m part p q d f =
 meeting_lies_in_root : (m : Model) (part : List ℕ) (root : Box) (p : List ℤ) (q : ℤ) → IsDecomposed m part → IsRootBox m root → MeetsAllParts m part p q → LiesIn m root p q
 meeting_lies_in_root m part root p q d r f = all_both _ _ _ (enumerate_from 0 (integers_of m)) r.rounded
     (all_numbered (IsIntegerAt part p q) 0 (integers_of m) (integers_at m part p q d f))
-    (λ e c a.
-      (above_ceiling e.1.1.lower (coordinate root.lower e.0) (coordinate p e.1.0) q a.in_master.lower f.positive c.0 a.bounds.at_least a.whole,
-       below_floor e.1.1.upper (coordinate root.upper e.0) (coordinate p e.1.0) q a.in_master.upper f.positive c.1 a.bounds.at_most a.whole))
+    (λ e c a. (
+      above_ceiling e.1.1.lower (coordinate root.lower e.0) (coordinate p e.1.0) q a.in_master.lower f.positive c.0 a.bounds.at_least a.whole,
+      below_floor e.1.1.upper (coordinate root.upper e.0) (coordinate p e.1.0) q a.in_master.upper f.positive c.1 a.bounds.at_most a.whole,
+    ))
 
 -- every feasible point lies in the box of the whole model
 pub lies_in_root : (m : Model) (part : List ℕ) (root : Box) (p : List ℤ) (q : ℤ) → IsDecomposed m part → IsRootBox m root → IsFeasible m p q → LiesIn m root p q

@@ -1,11 +1,10 @@
 -- Facts of lists whose elements are numbered, and lists made of the numbers that a function gives.
-use Rattle.std.specs.Prelude.{ℕ, zero, suc, ◌+◌, ◌<◌, ◌≤◌, ◌≡◌, ℤ, pos, ◌+ℤ◌, List, [], ◌∷◌, length, map}
+use Rattle.std.specs.Prelude.{ℕ, zero, suc, ◌+◌, ◌<◌, ◌≤◌, ◌≡◌, ℤ, ◌+ℤ◌, List, [], ◌∷◌, length, map}
 use Rattle.std.specs.List.{AllByRecursion, enumerate_from}
-use Rattle.std.proofs.Common.{refl, ap, sym, subst, ◌∙◌, arith, inl, inr}
+use Rattle.std.proofs.Common.{refl, ap, sym, subst, arith, inl, inr}
 use Rattle.std.proofs.lemmas.Bool.{cases_eq}
 use Rattle.std.proofs.lemmas.Int.{ints}
 use Rattle.bz_algebra.specs.Sums.{upto}
-use Rattle.bz_algebra.proofs.Ring.{zero_add}
 use Rattle.bz_model.specs.Points.{coordinate}
 use Rattle.bz_pass.specs.Certificates.{total}
 
@@ -23,8 +22,9 @@ module _ {X : Type 0} where
   pub each_number : (R : ℕ → Type 0) (n : ℕ) (xs : List X) → AllByRecursion (λ e. R e.0) (enumerate_from n xs) → (b : ℕ) → n ≤ b → b < n + length xs → R b
   each_number R n [] h b l u = absurd (omega arith)
   each_number R n (x ∷ xs) h b l u = elim (cases_eq n b) [
-        inl e ↦ subst R e h.0
-      | inr d ↦ each_number R (n + 1) xs h.1 b (omega arith) (omega arith) ]
+    | inl e ↦ subst R e h.0
+    | inr d ↦ each_number R (n + 1) xs h.1 b (omega arith) (omega arith)
+  ]
 
 pub all_mapped : {X Y : Type 0} (P : Y → Type 0) (f : X → Y) (xs : List X) → AllByRecursion (λ x. P (f x)) xs → AllByRecursion P (map f xs)
 all_mapped P f [] h = tt

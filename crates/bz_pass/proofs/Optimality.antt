@@ -1,45 +1,28 @@
 -- A passing certificate's points are optimal, and their objective is the stated one.
 use Rattle.std.specs.Prelude.{ℕ, ◌≡◌, Bool, true, false, ℤ, pos, ◌+ℤ◌, ◌*ℤ◌, ◌≤ℤ◌, ◌<ℤ◌, neg_ℤ, List, MatchBool, if◌then◌else◌}
-use Rattle.std.proofs.Common.{refl, ap, sym, subst, ◌∙◌, arith}
-use Rattle.std.proofs.lemmas.Int.{ints, by_lt_z}
-use Rattle.std.proofs.Math.IntN.{*ℤ_comm}
-use Rattle.bz_algebra.specs.Fractions.{Fraction, IsLess, IsSameNumber}
+use Rattle.std.proofs.Common.{refl, ap, sym, ◌∙◌, arith}
+use Rattle.std.proofs.lemmas.Int.{ints}
+use Rattle.bz_algebra.specs.Fractions.{IsSameNumber}
 use Rattle.bz_algebra.specs.Sums.{dot}
-use Rattle.bz_algebra.proofs.Ring.{*ℤ_assoc, add_mul, mul_add, neg_mul, mul_neg, mul_left, mul_right, mul_regroup, mul_positive, mul_le_left, mul_le_right, cancel_le_left, cancel_le_right, cancel_lt_left, le_antisym}
+use Rattle.bz_algebra.proofs.Ring.{add_mul, neg_mul, mul_left, mul_right, mul_le_right, cancel_le_right, cancel_lt_left, le_antisym}
 use Rattle.bz_model.specs.declared.Model.{Model}
 use Rattle.bz_model.specs.Parting.{negated, inner_cost}
-use Rattle.bz_model.specs.Points.{coordinate, objective, IsFeasible, IsBetter, IsOptimal}
+use Rattle.bz_model.specs.Points.{coordinate, objective, IsFeasible, IsOptimal}
 use Rattle.bz_model.proofs.PartSums.{dot_negated}
 use Rattle.bz_pass.specs.declared.records.Certificate.{Certificate}
-use Rattle.bz_pass.specs.Certificates.{Passes, IsPointOf, LeafPasses, stated_objective}
+use Rattle.bz_pass.specs.Certificates.{Passes, IsPointOf, stated_objective}
 use Rattle.bz_pass.specs.Laws.{IsProved}
 use Rattle.bz_pass.proofs.CutsHold.{IsDecomposed}
-use Rattle.bz_pass.proofs.LeavesHold.{leaf_bounds, leaf_empties}
+use Rattle.bz_pass.proofs.LeavesHold.{passing_leaf_bounds}
 use Rattle.bz_pass.proofs.MasterIntegers.{lies_in_root}
 use Rattle.bz_pass.proofs.PointsOfParts.{point_is_feasible, point_costs_at_most}
 
 -- ---- the value is a lower bound
--- value / den is at most bound / delta, and bound / delta at most inner / q
-chained : (value den bound delta inner q : ℤ) → (pos 0) <ℤ den → (pos 0) <ℤ delta → (pos 0) <ℤ q → (value *ℤ delta) ≤ℤ (bound *ℤ den) → (bound *ℤ q) ≤ℤ (delta *ℤ inner) → (value *ℤ q) ≤ℤ (inner *ℤ den)
-chained value den bound delta inner q hd hl hq h g = cancel_le_left delta (value *ℤ q) (inner *ℤ den) hl
-    (omega (arith, ints,
-      mul_le_right (value *ℤ delta) (bound *ℤ den) q (omega (arith, ints)) h,
-      mul_le_right (bound *ℤ q) (delta *ℤ inner) den (omega (arith, ints)) g,
-      mul_right value delta q, *ℤ_comm (value *ℤ q) delta,
-      mul_right bound den q,
-      *ℤ_assoc delta inner den))
-
 pub value_at_most : (m : Model) (part : List ℕ) (c : Certificate) (p : List ℤ) (q : ℤ) → IsDecomposed m part → Passes m part c → IsFeasible m p q → (c.value *ℤ q) ≤ℤ (dot (inner_cost m) (coordinate p) *ℤ c.parts.master.den)
-value_at_most m part c p q d s f =
-    let lies = lies_in_root m part s.root p q d s.is_root f in
-    let bounds = leaf_bounds m part s.root c.cuts c.tree p q d s.cuts s.tree.holds f lies in
-    by_lt_z (pos 0) c.tree.delta
-      (λ l. chained c.value c.parts.master.den c.tree.bound c.tree.delta (dot (inner_cost m) (coordinate p)) q s.shape.den l f.positive (s.tree.bound l) bounds)
-      (λ l. absurd (leaf_empties m part s.root c.cuts c.tree p q d s.cuts s.tree.holds (le_antisym c.tree.delta (pos 0) l s.tree.holds.delta) f lies))
+value_at_most m part c p q d s f = passing_leaf_bounds m part s.root c.cuts c.value c.parts.master.den c.tree p q d s.cuts s.shape.den s.tree f (lies_in_root m part s.root p q d s.is_root f)
 
 -- ---- from the inner cost to the objective
--- The cost a at p / q, with the value v over d: its inner form is the least one.
--- no point with the cost b / q' is better
+-- a / q is v / d, and b / q' is no less
 record IsLeast (d a b q q' v : ℤ) : Type 0 where
   den : (pos 0) <ℤ d
   reached : a *ℤ d ≡ v *ℤ q
@@ -48,10 +31,15 @@ record IsLeast (d a b q q' v : ℤ) : Type 0 where
 -- a / q is at most b / q'
 least : (d a b q q' v : ℤ) → (pos 0) <ℤ q → (pos 0) <ℤ q' → IsLeast d a b q q' v → (a *ℤ q') ≤ℤ (b *ℤ q)
 least d a b q q' v hq hq' h = cancel_le_right (a *ℤ q') (b *ℤ q) d h.den
-    (omega (arith, ints,
-      mul_right a q' d, ap (λ (t : ℤ). t *ℤ q') h.reached, mul_right v q q',
+    (omega (
+      arith,
+      ints,
+      mul_right a q' d,
+      ap (λ (t : ℤ). t *ℤ q') h.reached,
+      mul_right v q q',
       mul_le_right (v *ℤ q') (b *ℤ d) q (omega (arith, ints)) h.bound,
-      mul_right b d q))
+      mul_right b d q,
+    ))
 
 -- (a + k q) / (s q) is not greater than (b + k q') / (s q')
 no_less : (a b k s q q' : ℤ) → (pos 0) <ℤ s → (a *ℤ q') ≤ℤ (b *ℤ q) → ((b +ℤ (k *ℤ q')) *ℤ (s *ℤ q)) <ℤ ((a +ℤ (k *ℤ q)) *ℤ (s *ℤ q')) → ⊥
@@ -91,14 +79,18 @@ decomposed : (m : Model) (part : List ℕ) (c : Certificate) → IsProved m part
 decomposed m part c h = record { columns = h.columns; partition = h.partition; strict = h.strict }
 
 pub passing_optimal : (m : Model) (part : List ℕ) (c : Certificate) (p : List ℤ) (q : ℤ) → IsProved m part c → IsPointOf m part c.parts p q → IsOptimal m p q × IsSameNumber (objective m p q) (stated_objective m c)
-passing_optimal m part c p q h r =
-    (record { feasible = f; best = λ p' q' f' better. judged m.maximise c.parts.master.den (dot m.cost (coordinate p)) (dot m.cost (coordinate p')) m.constant m.scale q q' c.value
+passing_optimal m part c p q h r = (
+  record {
+    feasible = f;
+    best = λ p' q' f' better. judged m.maximise c.parts.master.den (dot m.cost (coordinate p)) (dot m.cost (coordinate p')) m.constant m.scale q q' c.value
         (dot (inner_cost m) (coordinate p)) (dot (inner_cost m) (coordinate p'))
         (either m.maximise m.cost (coordinate p)) (either m.maximise m.cost (coordinate p'))
         m.scale_positive f.positive f'.positive
         (record { den = h.passes.shape.den; reached = reached; bound = value_at_most m part c p' q' d h.passes f' })
-        better },
-     stated m.maximise c.parts.master.den (dot m.cost (coordinate p)) m.constant m.scale q c.value (dot (inner_cost m) (coordinate p)) (either m.maximise m.cost (coordinate p)) reached)
+        better;
+  },
+  stated m.maximise c.parts.master.den (dot m.cost (coordinate p)) m.constant m.scale q c.value (dot (inner_cost m) (coordinate p)) (either m.maximise m.cost (coordinate p)) reached,
+)
   where
     d : IsDecomposed m part
     d = decomposed m part c h

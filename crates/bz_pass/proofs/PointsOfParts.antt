@@ -1,11 +1,10 @@
 -- The point of a passing certificate's parts is feasible, and its inner cost is at most the certificate's value.
-use Rattle.std.specs.Prelude.{ℕ, zero, suc, ◌+◌, ◌-◌, ◌<◌, ◌≤◌, ◌≡◌, ◌⊎◌, ℤ, pos, ◌+ℤ◌, ◌*ℤ◌, ◌≤ℤ◌, ◌<ℤ◌, List, [], ◌∷◌, length}
+use Rattle.std.specs.Prelude.{ℕ, zero, suc, ◌<◌, ◌≤◌, ◌≡◌, ℤ, pos, ◌+ℤ◌, ◌*ℤ◌, ◌≤ℤ◌, ◌<ℤ◌, List, []}
 use Rattle.std.specs.List.{AllByRecursion, enumerate_from}
-use Rattle.std.proofs.Common.{refl, ap, sym, subst, ◌∙◌, arith, inl, inr}
-use Rattle.std.proofs.lemmas.Bool.{cases_eq}
+use Rattle.std.proofs.Common.{ap, subst, ◌∙◌, arith}
 use Rattle.std.proofs.lemmas.Int.{ints}
 use Rattle.bz_algebra.specs.Sums.{dot, upto, AllBelow}
-use Rattle.bz_algebra.proofs.Ring.{*ℤ_assoc, add_mul, mul_positive}
+use Rattle.bz_algebra.proofs.Ring.{*ℤ_assoc, add_mul}
 use Rattle.bz_algebra.proofs.SumLemmas.{upto_le, upto_scale_right}
 use Rattle.bz_model.specs.declared.BlockPart.{BlockPart}
 use Rattle.bz_model.specs.declared.Column.{Column}
@@ -19,7 +18,7 @@ use Rattle.bz_model.proofs.Inequalities.{master_has_own_alone}
 use Rattle.bz_model.proofs.MeetingParts.{all_both, all_then}
 use Rattle.bz_model.proofs.PartSums.{at_part}
 use Rattle.bz_pass.specs.declared.records.Certificate.{Certificate}
-use Rattle.bz_pass.specs.Boxes.{Box, IsRootBox, IsCeiling, IsFloor}
+use Rattle.bz_pass.specs.Boxes.{Box}
 use Rattle.bz_pass.specs.Certificates.{eta_of, total, HoldsInMaster, HoldsInBlock, IntegerHolds, BlockHolds, Passes, IsPointOf}
 use Rattle.bz_pass.proofs.CutsHold.{IsDecomposed, feasible, cost_of_part, cost_terms_within, cost_by_parts, part_fits}
 use Rattle.bz_pass.proofs.Fractional.{scaled_le, scaled_ge, scaled_whole, scaled_sum, within_ceiling, within_floor}
@@ -76,7 +75,8 @@ module _ (m : Model) (part : List ℕ) (c : Certificate) (p : List ℤ) (q : ℤ
         at_least = within_ceiling e.1.1.lower (coordinate s.root.lower e.0) (coordinate p e.1.0) q r.positive ends.0
             (scaled_ge den q (coordinate s.root.lower e.0) (coordinate p e.1.0) (coordinate c.parts.master.x (position_of part e.1.0)) s.shape.den r.positive (at_column e.1 h.in_master) h.holds.at_least);
         at_most = within_floor e.1.1.upper (coordinate s.root.upper e.0) (coordinate p e.1.0) q r.positive ends.1
-            (scaled_le den q (coordinate s.root.upper e.0) (coordinate p e.1.0) (coordinate c.parts.master.x (position_of part e.1.0)) s.shape.den r.positive (at_column e.1 h.in_master) h.holds.at_most) }))
+            (scaled_le den q (coordinate s.root.upper e.0) (coordinate p e.1.0) (coordinate c.parts.master.x (position_of part e.1.0)) s.shape.den r.positive (at_column e.1 h.in_master) h.holds.at_most);
+      }))
 
   whole_meet : AllByRecursion (λ e. IsWhole (coordinate p e.0) q) (integers_of m)
   whole_meet = all_from_numbered (λ e. IsWhole (coordinate p e.0) q) 0 (integers_of m)
@@ -114,7 +114,8 @@ module _ (m : Model) (part : List ℕ) (c : Certificate) (p : List ℤ) (q : ℤ
     numbers = r.numbers;
     inequalities = part_meets;
     bounds = bounds_meet;
-    whole = whole_meet }
+    whole = whole_meet;
+  }
 
   -- ---- the inner cost
   block_cost : (e : ℕ × BlockPart) → IsBlockAt m part c.parts.master p q e → (cost_of_part m part p e.0 *ℤ den) ≤ℤ (eta_of c.parts.master e.0 *ℤ q)

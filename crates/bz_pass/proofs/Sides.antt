@@ -1,10 +1,9 @@
 -- Inequalities that hold at a point, times positive multipliers, add up to one that holds there.
-use Rattle.std.specs.Prelude.{ℕ, zero, suc, ◌<◌, ◌≡◌, ℤ, pos, ◌+ℤ◌, ◌*ℤ◌, ◌≤ℤ◌, neg_ℤ, List, [], ◌∷◌, length}
+use Rattle.std.specs.Prelude.{ℕ, zero, suc, ◌<◌, ◌≡◌, ℤ, ◌+ℤ◌, ◌*ℤ◌, ◌≤ℤ◌, neg_ℤ, List, [], ◌∷◌, length}
 use Rattle.std.specs.List.{AllByRecursion}
-use Rattle.std.proofs.Common.{refl, ap, sym, subst, ◌∙◌, arith}
-use Rattle.std.proofs.lemmas.Int.{ints}
+use Rattle.std.proofs.Common.{ap, sym, ◌∙◌, arith}
 use Rattle.bz_algebra.specs.Sums.{dot, coef, upto, AllBelow}
-use Rattle.bz_algebra.specs.Systems.{System, Meets, SumsTo, ArePositive}
+use Rattle.bz_algebra.specs.Systems.{System, ArePositive}
 use Rattle.bz_algebra.proofs.Duality.{weak_duality}
 use Rattle.bz_algebra.proofs.Ring.{*ℤ_assoc, neg_mul}
 use Rattle.bz_algebra.proofs.SumLemmas.{dot_all, dot_scale_right, dot_same_below, upto_same, upto_scale, upto_neg}
@@ -28,7 +27,7 @@ system_of w d is = record {
   depth = d;
   first = λ n i. coef (own_at is n) i;
   second = λ n j. coef (master_at is n) j;
-  rhs = rhs_at is
+  rhs = rhs_at is;
 }
 
 row_holds : (w d : ℕ) (x y : ℕ → ℤ) (q : ℤ) (is : List Ineq) → AllByRecursion (FitsIn w d) is → AllByRecursion (HoldsAt x y q) is → (r : ℕ) → r < length is → (upto w (λ i. coef (own_at is r) i *ℤ x i) +ℤ upto d (λ j. coef (master_at is r) j *ℤ y j)) ≤ℤ (rhs_at is r *ℤ q)

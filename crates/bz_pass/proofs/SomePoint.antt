@@ -1,11 +1,11 @@
 -- The parts of a certificate are those of some point: its coordinates over the product of all denominators.
-use Rattle.std.specs.Prelude.{ℕ, zero, suc, ◌+◌, ◌-◌, ◌<◌, ◌≤◌, ◌≡◌, cond, eqb, ℤ, pos, ◌*ℤ◌, ◌<ℤ◌, List, [], ◌∷◌, length}
+use Rattle.std.specs.Prelude.{ℕ, zero, suc, ◌+◌, ◌-◌, ◌<◌, ◌≡◌, cond, eqb, ℤ, pos, ◌*ℤ◌, ◌<ℤ◌, List, [], ◌∷◌, length}
 use Rattle.std.specs.List.{AllByRecursion, enumerate_from}
-use Rattle.std.proofs.Common.{refl, ap, sym, subst, ◌∙◌, arith}
+use Rattle.std.proofs.Common.{refl, ap, sym, ◌∙◌, arith}
 use Rattle.std.proofs.lemmas.Int.{ints}
 use Rattle.std.proofs.lemmas.Bool.{ne_eqb}
 use Rattle.std.proofs.Math.IntN.{*ℤ_comm}
-use Rattle.bz_algebra.proofs.Ring.{*ℤ_assoc, one_mul, mul_left, mul_right, mul_positive}
+use Rattle.bz_algebra.proofs.Ring.{*ℤ_assoc, one_mul, mul_left, mul_positive}
 use Rattle.bz_model.specs.declared.BlockPart.{BlockPart}
 use Rattle.bz_model.specs.declared.Model.{Model}
 use Rattle.bz_model.specs.declared.Parts.{Parts}
@@ -84,7 +84,8 @@ module _ (m : Model) (part : List ℕ) (parts : Parts) where
     numbers = counted;
     master = λ i l. ap (λ (t : ℤ). t *ℤ parts.master.den) (at_position n 0 i l ∙ number-master i) ∙ in_master (coordinate parts.master.x i) (all_times parts.blocks) parts.master.den;
     blocks = all_then (λ e. (i : ℕ) → number e.0 i *ℤ e.1.times ≡ coordinate e.1.y i *ℤ (pos 1 *ℤ all_times parts.blocks)) _ (enumerate_from 1 parts.blocks) (raised_are 1 (pos 1) parts.blocks number number-block)
-        (λ e g i l. ap (λ (t : ℤ). t *ℤ (parts.master.den *ℤ e.1.times)) (at_position n e.0 i l) ∙ in_block (number e.0 i) parts.master.den e.1.times (coordinate e.1.y i) (all_times parts.blocks) (g i)) }
+        (λ e g i l. ap (λ (t : ℤ). t *ℤ (parts.master.den *ℤ e.1.times)) (at_position n e.0 i l) ∙ in_block (number e.0 i) parts.master.den e.1.times (coordinate e.1.y i) (all_times parts.blocks) (g i));
+  }
     where
       in_master : (x t d : ℤ) → (x *ℤ t) *ℤ d ≡ x *ℤ (d *ℤ t)
       in_master x t d = *ℤ_assoc x t d ∙ ap (λ (s : ℤ). x *ℤ s) (*ℤ_comm t d)

@@ -5,11 +5,9 @@ ghost use Rattle.bz_pass.specs.Laws.{PassingHasAPoint, PassingIsOptimal};
 /// certificate states its objective.
 pub fn passing_is_optimal()
     ensures { PassingIsOptimal }
-{
-}
+{}
 
 /// The parts of a passing certificate are those of some point.
 pub fn parts_have_a_point()
     ensures { PassingHasAPoint }
-{
-}
+{}
