@@ -26,12 +26,12 @@ pub record IsRootBox (m : Model) (box : Box) : Type 0 where
   pub uppers : length box.upper ≡ length (integers_of m)
   pub rounded : AllByRecursion
       (λ e. IfSome e.1.1.lower (λ f. IsCeiling f (coordinate box.lower e.0))
-          × IfSome e.1.1.upper (λ f. IsFloor f (coordinate box.upper e.0)))
+      × IfSome e.1.1.upper (λ f. IsFloor f (coordinate box.upper e.0)))
       (enumerate_from 0 (integers_of m))
 
 -- each integer coordinate of the point p / q lies between its ends
 abbrev pub LiesIn : Model → Box → List ℤ → ℤ → Type 0
 LiesIn m box p q = AllByRecursion
     (λ e. ((coordinate box.lower e.0 *ℤ q) ≤ℤ coordinate p e.1.0)
-        × (coordinate p e.1.0 ≤ℤ (coordinate box.upper e.0 *ℤ q)))
+    × (coordinate p e.1.0 ≤ℤ (coordinate box.upper e.0 *ℤ q)))
     (enumerate_from 0 (integers_of m))

@@ -86,12 +86,12 @@ pub record IsPointOf (m : Model) (part : List ℕ) (parts : Parts) (p : List ℤ
       coordinate p (column_at part 0 i) *ℤ parts.master.den ≡ coordinate parts.master.x i *ℤ q
   pub blocks : AllByRecursion
       (λ e. (i : ℕ) → i < width_of part e.0 →
-          coordinate p (column_at part e.0 i) *ℤ (parts.master.den *ℤ e.1.times) ≡ coordinate e.1.y i *ℤ q)
+      coordinate p (column_at part e.0 i) *ℤ (parts.master.den *ℤ e.1.times) ≡ coordinate e.1.y i *ℤ q)
       (enumerate_from 1 parts.blocks)
 
 -- the objective that a certificate states: its value with the model's sign, constant and scale
 abbrev pub stated_objective : Model → Certificate → Fraction
 stated_objective m c = record {
   num = (if m.maximise then neg_ℤ c.value else c.value) +ℤ (m.constant *ℤ c.parts.master.den);
-  den = m.scale *ℤ c.parts.master.den
+  den = m.scale *ℤ c.parts.master.den;
 }

@@ -3,6 +3,8 @@
 //! This crate knows no text and no search.
 #![tactic(auto)]
 
+mod laws;
 mod records;
 
+pub use laws::{parts_have_a_point, passing_is_optimal};
 pub use records::{Certificate, Cut, Leaf};

@@ -1,0 +1,102 @@
+-- A passing certificate's points are optimal, and their objective is the stated one.
+use Rattle.std.specs.Prelude.{ℕ, ◌≡◌, Bool, true, false, ℤ, pos, ◌+ℤ◌, ◌*ℤ◌, ◌≤ℤ◌, ◌<ℤ◌, neg_ℤ, List, MatchBool, if◌then◌else◌}
+use Rattle.std.proofs.Common.{refl, ap, sym, ◌∙◌, arith}
+use Rattle.std.proofs.lemmas.Int.{ints}
+use Rattle.bz_algebra.specs.Fractions.{IsSameNumber}
+use Rattle.bz_algebra.specs.Sums.{dot}
+use Rattle.bz_algebra.proofs.Ring.{add_mul, neg_mul, mul_left, mul_right, mul_le_right, cancel_le_right, cancel_lt_left, le_antisym}
+use Rattle.bz_model.specs.declared.Model.{Model}
+use Rattle.bz_model.specs.Parting.{negated, inner_cost}
+use Rattle.bz_model.specs.Points.{coordinate, objective, IsFeasible, IsOptimal}
+use Rattle.bz_model.proofs.PartSums.{dot_negated}
+use Rattle.bz_pass.specs.declared.records.Certificate.{Certificate}
+use Rattle.bz_pass.specs.Certificates.{Passes, IsPointOf, stated_objective}
+use Rattle.bz_pass.specs.Laws.{IsProved}
+use Rattle.bz_pass.proofs.CutsHold.{IsDecomposed}
+use Rattle.bz_pass.proofs.LeavesHold.{passing_leaf_bounds}
+use Rattle.bz_pass.proofs.MasterIntegers.{lies_in_root}
+use Rattle.bz_pass.proofs.PointsOfParts.{point_is_feasible, point_costs_at_most}
+
+-- ---- the value is a lower bound
+pub value_at_most : (m : Model) (part : List ℕ) (c : Certificate) (p : List ℤ) (q : ℤ) → IsDecomposed m part → Passes m part c → IsFeasible m p q → (c.value *ℤ q) ≤ℤ (dot (inner_cost m) (coordinate p) *ℤ c.parts.master.den)
+value_at_most m part c p q d s f = passing_leaf_bounds m part s.root c.cuts c.value c.parts.master.den c.tree p q d s.cuts s.shape.den s.tree f (lies_in_root m part s.root p q d s.is_root f)
+
+-- ---- from the inner cost to the objective
+-- a / q is v / d, and b / q' is no less
+record IsLeast (d a b q q' v : ℤ) : Type 0 where
+  den : (pos 0) <ℤ d
+  reached : a *ℤ d ≡ v *ℤ q
+  bound : (v *ℤ q') ≤ℤ (b *ℤ d)
+
+-- a / q is at most b / q'
+least : (d a b q q' v : ℤ) → (pos 0) <ℤ q → (pos 0) <ℤ q' → IsLeast d a b q q' v → (a *ℤ q') ≤ℤ (b *ℤ q)
+least d a b q q' v hq hq' h = cancel_le_right (a *ℤ q') (b *ℤ q) d h.den
+    (omega (
+      arith,
+      ints,
+      mul_right a q' d,
+      ap (λ (t : ℤ). t *ℤ q') h.reached,
+      mul_right v q q',
+      mul_le_right (v *ℤ q') (b *ℤ d) q (omega (arith, ints)) h.bound,
+      mul_right b d q,
+    ))
+
+-- (a + k q) / (s q) is not greater than (b + k q') / (s q')
+no_less : (a b k s q q' : ℤ) → (pos 0) <ℤ s → (a *ℤ q') ≤ℤ (b *ℤ q) → ((b +ℤ (k *ℤ q')) *ℤ (s *ℤ q)) <ℤ ((a +ℤ (k *ℤ q)) *ℤ (s *ℤ q')) → ⊥
+no_less a b k s q q' hs h l =
+    let left : (b +ℤ (k *ℤ q')) *ℤ (s *ℤ q) ≡ s *ℤ ((b *ℤ q) +ℤ ((k *ℤ q') *ℤ q)) = mul_left (b +ℤ (k *ℤ q')) s q ∙ ap (λ (t : ℤ). s *ℤ t) (add_mul b (k *ℤ q') q) in
+    let right : (a +ℤ (k *ℤ q)) *ℤ (s *ℤ q') ≡ s *ℤ ((a *ℤ q') +ℤ ((k *ℤ q) *ℤ q')) = mul_left (a +ℤ (k *ℤ q)) s q' ∙ ap (λ (t : ℤ). s *ℤ t) (add_mul a (k *ℤ q) q') in
+    let g : ((b *ℤ q) +ℤ ((k *ℤ q') *ℤ q)) <ℤ ((a *ℤ q') +ℤ ((k *ℤ q) *ℤ q')) = cancel_lt_left s ((b *ℤ q) +ℤ ((k *ℤ q') *ℤ q)) ((a *ℤ q') +ℤ ((k *ℤ q) *ℤ q')) (omega (arith, ints)) (rw (← left, ← right) l) in
+    omega (arith, ints, g, h, mul_right k q q')
+
+-- (a + k q) / (s q) is (v + k d) / (s d) where a / q is v / d
+same : (a v k s q d : ℤ) → a *ℤ d ≡ v *ℤ q → (a +ℤ (k *ℤ q)) *ℤ (s *ℤ d) ≡ (v +ℤ (k *ℤ d)) *ℤ (s *ℤ q)
+same a v k s q d e =
+    mul_left (a +ℤ (k *ℤ q)) s d
+    ∙ ap (λ (t : ℤ). s *ℤ t) (add_mul a (k *ℤ q) d ∙ omega (arith, ints, e, mul_right k q d, add_mul v (k *ℤ d) q) ∙ sym (add_mul v (k *ℤ d) q))
+    ∙ sym (mul_left (v +ℤ (k *ℤ d)) s q)
+
+-- the same for the objective in its two senses: `a` and `b` are the model's costs of two points
+judged : (maximise : Bool) (d a b k s q q' v : ℤ) (ai bi : ℤ) → ai ≡ (if maximise then neg_ℤ a else a) → bi ≡ (if maximise then neg_ℤ b else b) → (pos 0) <ℤ s → (pos 0) <ℤ q → (pos 0) <ℤ q' → IsLeast d ai bi q q' v → MatchBool maximise (((a +ℤ (k *ℤ q)) *ℤ (s *ℤ q')) <ℤ ((b +ℤ (k *ℤ q')) *ℤ (s *ℤ q))) (((b +ℤ (k *ℤ q')) *ℤ (s *ℤ q)) <ℤ ((a +ℤ (k *ℤ q)) *ℤ (s *ℤ q'))) → ⊥
+judged true d a b k s q q' v ai bi ea eb hs hq hq' h l =
+    let g : (ai *ℤ q') ≤ℤ (bi *ℤ q) = least d ai bi q q' v hq hq' h in
+    let g' : (b *ℤ q) ≤ℤ (a *ℤ q') = omega (arith, ints, rw (ea, eb, neg_mul a q', neg_mul b q) at g) in
+    no_less b a k s q' q hs g' l
+judged false d a b k s q q' v ai bi ea eb hs hq hq' h l =
+    let g : (ai *ℤ q') ≤ℤ (bi *ℤ q) = least d ai bi q q' v hq hq' h in
+    no_less a b k s q q' hs (rw (← ea, ← eb) g) l
+
+stated : (maximise : Bool) (d a k s q v ai : ℤ) → ai ≡ (if maximise then neg_ℤ a else a) → ai *ℤ d ≡ v *ℤ q → (a +ℤ (k *ℤ q)) *ℤ (s *ℤ d) ≡ ((if maximise then neg_ℤ v else v) +ℤ (k *ℤ d)) *ℤ (s *ℤ q)
+stated true d a k s q v ai ea e = same a (neg_ℤ v) k s q d (omega (arith, ints, neg_mul a d, neg_mul v q, e, ap (λ (t : ℤ). t *ℤ d) ea))
+stated false d a k s q v ai ea e = same a v k s q d (ap (λ (t : ℤ). t *ℤ d) (sym ea) ∙ e)
+
+either : (maximise : Bool) (es : List (ℕ × ℤ)) (f : ℕ → ℤ) → dot (if maximise then negated es else es) f ≡ (if maximise then neg_ℤ (dot es f) else dot es f)
+either true es f = dot_negated es f
+either false es f = refl
+
+-- ---- the law
+decomposed : (m : Model) (part : List ℕ) (c : Certificate) → IsProved m part c → IsDecomposed m part
+decomposed m part c h = record { columns = h.columns; partition = h.partition; strict = h.strict }
+
+pub passing_optimal : (m : Model) (part : List ℕ) (c : Certificate) (p : List ℤ) (q : ℤ) → IsProved m part c → IsPointOf m part c.parts p q → IsOptimal m p q × IsSameNumber (objective m p q) (stated_objective m c)
+passing_optimal m part c p q h r = (
+  record {
+    feasible = f;
+    best = λ p' q' f' better. judged m.maximise c.parts.master.den (dot m.cost (coordinate p)) (dot m.cost (coordinate p')) m.constant m.scale q q' c.value
+        (dot (inner_cost m) (coordinate p)) (dot (inner_cost m) (coordinate p'))
+        (either m.maximise m.cost (coordinate p)) (either m.maximise m.cost (coordinate p'))
+        m.scale_positive f.positive f'.positive
+        (record { den = h.passes.shape.den; reached = reached; bound = value_at_most m part c p' q' d h.passes f' })
+        better;
+  },
+  stated m.maximise c.parts.master.den (dot m.cost (coordinate p)) m.constant m.scale q c.value (dot (inner_cost m) (coordinate p)) (either m.maximise m.cost (coordinate p)) reached,
+)
+  where
+    d : IsDecomposed m part
+    d = decomposed m part c h
+
+    f : IsFeasible m p q
+    f = point_is_feasible m part c p q d h.passes r
+
+    reached : dot (inner_cost m) (coordinate p) *ℤ c.parts.master.den ≡ c.value *ℤ q
+    reached = le_antisym _ _ (point_costs_at_most m part c p q d h.passes r) (value_at_most m part c p q d h.passes f)
