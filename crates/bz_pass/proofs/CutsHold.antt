@@ -8,21 +8,15 @@ use Rattle.bz_model.specs.Meeting.{MeetsAllParts}
 use Rattle.bz_model.specs.Parting.{blocks_of, width_of, terms_in, negated, inequalities_of, inner_cost}
 use Rattle.bz_model.specs.Points.{coordinate, IsFeasible}
 use Rattle.bz_model.specs.Splits.{FitsPart}
-use Rattle.bz_model.specs.Strict.{HasItsColumns, IsPartition, IsStrict}
 use Rattle.bz_model.proofs.Inequalities.{inequalities_fit}
 use Rattle.bz_model.proofs.MeetingParts.{all_then, feasible_meets, meeting_is_feasible}
 use Rattle.bz_model.proofs.PartSums.{at_part, dot_by_parts, negated_within, terms_in_within}
 use Rattle.bz_pass.specs.declared.records.Cut.{Cut}
 use Rattle.bz_pass.specs.Cuts.{IsValid}
+pub use Rattle.bz_pass.specs.Laws.{IsDecomposed}
 use Rattle.bz_pass.proofs.Fractional.{divided}
 use Rattle.bz_pass.proofs.Numbered.{upto_first}
 use Rattle.bz_pass.proofs.Sides.{FitsIn, sum_holds, upto_multiple, upto_multiple_neg}
-
--- the model may be solved by the partition
-pub record IsDecomposed (m : Model) (part : List ℕ) : Type 0 where
-  pub columns : HasItsColumns m
-  pub partition : IsPartition m part
-  pub strict : IsStrict m part
 
 pub meets : (m : Model) (part : List ℕ) (p : List ℤ) (q : ℤ) → IsDecomposed m part → IsFeasible m p q → MeetsAllParts m part p q
 meets m part p q d f = feasible_meets m part p q d.columns d.partition d.strict.rows f

@@ -26,7 +26,9 @@ pub struct Cut {
 pub struct Leaf {
     /// Multipliers of the master's inequalities, then the box sides, then the cuts, by place.
     pub lambda: SparseRow,
+    /// By what the inner cost and the etas come out multiplied, at least 0 in a leaf that holds.
     pub delta: i128,
+    /// The bound times `delta`; positive where `delta` is 0 in a leaf that holds.
     pub bound: i128,
 }
 
@@ -34,8 +36,12 @@ pub struct Leaf {
 /// inner cost, and the cuts and the leaf that show it to be least.
 #[derive(Drop)]
 pub struct Certificate {
+    /// The point, part by part.
     pub parts: Parts,
+    /// The inner cost of the point, over the master's denominator.
     pub value: i128,
+    /// The cuts that the leaf's multipliers speak of.
     pub cuts: Items<Cut>,
+    /// The leaf, over the box of the whole model.
     pub tree: Leaf,
 }
