@@ -17,7 +17,7 @@ risen_cases before after risen =
 pub risen_behind : (first before after : ℕ) → first ≤ before → HasRisen before after → HasRisen first after
 risen_behind first before after le risen = record {
   no_fall = omega arith;
-  rise = λ low. elim (cases_lt before last_count) [ inl below ↦ omega (arith, risen.rise below) | inr above ↦ omega arith ]
+  rise = λ low. elim (cases_lt before last_count) [ inl below ↦ omega (arith, risen.rise below) | inr above ↦ omega arith ];
 }
 
 -- a rise before calls that let no count fall
@@ -60,10 +60,10 @@ saves_then name bytes first then now p q =
 pub saves_part_then : (name bytes : List ℕ) (first then now : Option Contents) → WhereTold IsSame first then → WhereTold (SavesInPart name bytes) then now → WhereTold (SavesInPart name bytes) first now
 saves_part_then name bytes first then now p q =
     same_then first then now
-      (λ a b c same saved. record {
-        named = elim saved.named [ inl kept ↦ inl (kept ∙ same name) | inr part ↦ inr part ];
-        others = λ other apart. saved.others other apart ∙ same other
-      }) p q
+    (λ a b c same saved. record {
+      named = elim saved.named [ inl kept ↦ inl (kept ∙ same name) | inr part ↦ inr part ];
+      others = λ other apart. saved.others other apart ∙ same other;
+    }) p q
 
 -- what a name holds after calls that changed nothing, it held before them
 pub holds_first : (name bytes : List ℕ) (first then : Option Contents) → WhereTold IsSame first then → Holds then name bytes → Holds first name bytes

@@ -50,13 +50,13 @@ saves_set files at named new name found d is =
     let its_own : bytes_eq named.items name ≡ true = (bytes_eq-Decides named.items name).1 same in
     record {
       named = contents_of-texts_of (set files at (named, new)) name
-        ∙ ap (option_map text) (find-set (has_name name) files at (named, new) (sym place) there.0 its_own);
+          ∙ ap (option_map text) (find-set (has_name name) files at (named, new) (sym place) there.0 its_own);
       others = λ other apart.
-        let not_there : bytes_eq (get_or files at d).0.items other ≡ false = rw (sym (ap (λ (v : Vec ℕ Global). v.items) is), same) (other_bytes name other apart) in
-        let not_new : bytes_eq named.items other ≡ false = rw same (other_bytes name other apart) in
-        contents_of-texts_of (set files at (named, new)) other
+          let not_there : bytes_eq (get_or files at d).0.items other ≡ false = rw (sym (ap (λ (v : Vec ℕ Global). v.items) is), same) (other_bytes name other apart) in
+          let not_new : bytes_eq named.items other ≡ false = rw same (other_bytes name other apart) in
+          contents_of-texts_of (set files at (named, new)) other
           ∙ ap (option_map text) (find_past (has_name other) files at (named, new) d not_there not_new)
-          ∙ sym (contents_of-texts_of files other)
+          ∙ sym (contents_of-texts_of files other);
     }
 
 -- nothing is added to what was found
@@ -68,12 +68,12 @@ or_none (Some file) = refl
 pub saves_push : (files : List (Vec ℕ Global × Vec ℕ Global)) (named : Vec ℕ Global) (new : Vec ℕ Global) → position (λ file. bytes_eq file.0.items named.items) files ≡ None → Saves named.items new.items (contents_of (texts_of files)) (contents_of (texts_of (files ++ (named, new) ∷ [])))
 saves_push files named new none = record {
   named =
-    contents_of-texts_of (files ++ (named, new) ∷ []) named.items
+      contents_of-texts_of (files ++ (named, new) ∷ []) named.items
       ∙ ap (option_map text) (find-append (has_name named.items) files ((named, new) ∷ []))
       ∙ rw (find_none (has_name named.items) files none, same_bytes named.items) refl;
   others = λ other apart.
-    contents_of-texts_of (files ++ (named, new) ∷ []) other
+      contents_of-texts_of (files ++ (named, new) ∷ []) other
       ∙ ap (option_map text) (find-append (has_name other) files ((named, new) ∷ []))
       ∙ rw (other_bytes named.items other apart) (ap (option_map text) (or_none _))
-      ∙ sym (contents_of-texts_of files other)
+      ∙ sym (contents_of-texts_of files other);
 }

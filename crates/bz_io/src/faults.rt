@@ -9,7 +9,11 @@ use crate::LoadError;
 pub(crate) fn faults_after(faults: u64, failed: bool) -> u64
     ensures { result ≡ faults_after faults failed }
 {
-    if failed { faults.saturating_add(1) } else { faults }
+    if failed {
+        faults.saturating_add(1)
+    } else {
+        faults
+    }
 }
 
 /// Whether a load ended with `Failed`.

@@ -63,7 +63,12 @@ impl<'a, R: Files> Desk for HostDesk<'a, R> {
     }
 }
 
-fn read_file<R: Files>(rt: &R, alloc: Global, name: &str, limit: usize) -> Result<Vec<u8>, LoadError>
+fn read_file<R: Files>(
+    rt: &R,
+    alloc: Global,
+    name: &str,
+    limit: usize,
+) -> Result<Vec<u8>, LoadError>
     ensures { IfOk result (λ bytes. length bytes.items ≤ limit) }
 {
     match File::open(rt, name) {

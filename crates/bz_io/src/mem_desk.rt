@@ -27,7 +27,10 @@ impl Model for MemDesk {
     ghost Value = { MemDeskState };
 
     ghost view = { λ d. record {
-        files = texts_of d.files.items; fails = d.fails.items; calls = d.calls; faults = d.faults
+      files = texts_of d.files.items;
+      fails = d.fails.items;
+      calls = d.calls;
+      faults = d.faults;
     } };
 }
 
@@ -99,7 +102,12 @@ fn text_of<'a>(files: &'a [(Vec<u8>, Vec<u8>)], name: &[u8]) -> Option<&'a [u8]>
 }
 
 /// A copy of the text, where there is one and it is within the limit and the call isn't listed.
-fn copy_of(alloc: Global, listed: bool, text: Option<&[u8]>, limit: usize) -> Result<Vec<u8>, LoadError>
+fn copy_of(
+    alloc: Global,
+    listed: bool,
+    text: Option<&[u8]>,
+    limit: usize,
+) -> Result<Vec<u8>, LoadError>
     ensures { MemLoads listed (option_copied text.entry) limit result }
 {
     if listed {
@@ -118,7 +126,13 @@ fn copy_of(alloc: Global, listed: bool, text: Option<&[u8]>, limit: usize) -> Re
 }
 
 /// Stores the bytes under the name, or the empty text in a call that is listed.
-fn store_unless(listed: bool, alloc: Global, files: &mut Files, name: &[u8], bytes: &[u8]) -> Result<(), SaveError>
+fn store_unless(
+    listed: bool,
+    alloc: Global,
+    files: &mut Files,
+    name: &[u8],
+    bytes: &[u8],
+) -> Result<(), SaveError>
     ensures { MemSaves listed name.now bytes.now (texts_of files.old.items) (texts_of files.new.items) result }
 {
     if listed {

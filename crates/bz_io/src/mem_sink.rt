@@ -24,7 +24,11 @@ impl Model for MemSink {
     ghost Value = { MemSinkState };
 
     ghost view = { λ s. record {
-        taken = s.taken.items; piece = s.piece; fails = s.fails.items; puts = s.puts; faults = s.faults
+      taken = s.taken.items;
+      piece = s.piece;
+      fails = s.fails.items;
+      puts = s.puts;
+      faults = s.faults;
     } };
 
     ghost invariant = { λ s. 1 ≤ s.piece };

@@ -9,7 +9,11 @@ use std::io::Read;
 const CHUNK: usize = 4096;
 
 /// All that the reader has left, if that is at most `limit` bytes. It reads at most `limit` + 1 bytes.
-pub(crate) fn read_within<R: Read>(alloc: Global, from: &mut R, limit: usize) -> Result<Vec<u8>, LoadError>
+pub(crate) fn read_within<R: Read>(
+    alloc: Global,
+    from: &mut R,
+    limit: usize,
+) -> Result<Vec<u8>, LoadError>
     ensures within { IfOk result (λ bytes. length bytes.items ≤ limit) }
     ensures all { ReadsAll (R.remaining from.old) limit result }
 {

@@ -5,7 +5,11 @@ use std::fmt::Display;
 use std::test::Fail;
 use std::{fs, io, process};
 
-fn one_file(alloc: Global, name: &[u8], text: &[u8]) -> Result<Vec<(Vec<u8>, Vec<u8>)>, AllocError> {
+fn one_file(
+    alloc: Global,
+    name: &[u8],
+    text: &[u8],
+) -> Result<Vec<(Vec<u8>, Vec<u8>)>, AllocError> {
     let mut files = Vec::new(alloc);
     files.push((Vec::from_slice(alloc, name)?, Vec::from_slice(alloc, text)?))?;
     Ok(files)

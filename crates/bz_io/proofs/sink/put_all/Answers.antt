@@ -10,5 +10,5 @@ pub loop-sent-preserved : goal.loop-sent-preserved
 loop-sent-preserved g c = record {
   within = omega (arith, simp (take_rest, length-drop) at c.in_ok-sent.ensures.within);
   taken = takes_more _ _ _ _ _ _ c.loop-sent.invariant.taken c.in_ok-sent.ensures.ok;
-  count = c.in_ok-sent.ensures.count ∙ c.loop-sent.invariant.count
+  count = c.in_ok-sent.ensures.count ∙ c.loop-sent.invariant.count;
 }

@@ -7,12 +7,12 @@ load-tells g c = record {
   within = c.ensures.within;
   refused = of_err c.result _ (λ error. refuses_untold error c.args.name.now c.args.limit);
   kept = tt;
-  count = c.ensures.count
+  count = c.ensures.count;
 }
 
 pub save-tells : goal.save-tells
 save-tells g c = record {
   ok = of_ok c.result _ (λ _. tt);
   failed = of_err c.result _ (λ _. tt);
-  count = c.ensures.count
+  count = c.ensures.count;
 }

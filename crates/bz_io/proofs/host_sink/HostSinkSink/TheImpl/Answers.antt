@@ -7,5 +7,5 @@ put-tells g c = record {
   within = c.ensures.within;
   ok = of_ok c.result _ (λ _. tt);
   failed = of_err c.result _ (λ _. tt);
-  count = c.ensures.count
+  count = c.ensures.count;
 }
