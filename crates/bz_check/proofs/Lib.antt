@@ -1,0 +1,11 @@
+pub mod BelowPosition
+pub mod Costs
+pub mod CutsPass
+pub mod LeavesPass
+pub mod Lowest
+pub mod NarrowSums
+pub mod PartsFit
+pub mod PassesChecked
+pub mod RootEnds
+pub mod Rounding
+pub mod Steps

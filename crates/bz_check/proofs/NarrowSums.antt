@@ -1,0 +1,27 @@
+-- The sum that a fold gives is narrow.
+use Rattle.std.proofs.Common.{◌≡◌, subst, ℕ, ◌+◌, false, List, [], ◌∷◌, arith, ℤ, pos, ◌+ℤ◌, ◌*ℤ◌, Result, Ok, IfOk, inl, inr}
+use Rattle.std.proofs.lemmas.Bool.{cases_Bool}
+use Rattle.std.proofs.lemmas.Bool.Decides.{nat_tests}
+use Rattle.bz_algebra.specs.Numbers.{IsNarrow}
+use Rattle.bz_num.specs.declared.WideSum.{WideSum}
+use Rattle.bz_num.specs.Fold.{fold_from, fold_of, goes_wide}
+
+narrow_next : (sum : ℤ) (p : ℤ × ℤ) → goes_wide sum p ≡ false → IsNarrow (sum +ℤ (p.0 *ℤ p.1))
+narrow_next sum p h = grind (arith, nat_tests)
+
+-- the sum that a fold gives
+pub fold_narrow : (at : ℕ) (sum : ℤ) (ps : List (ℤ × ℤ)) → IsNarrow sum → IfOk (fold_from at sum ps) IsNarrow
+fold_narrow at sum [] h = h
+fold_narrow at sum (p ∷ ps) h = elim (cases_Bool (goes_wide sum p)) [
+  | inl t ↦ rw t tt
+  | inr t ↦ rw t (fold_narrow (at + 1) (sum +ℤ (p.0 *ℤ p.1)) ps (narrow_next sum p t))
+]
+
+pub fold_of_narrow : (ps : List (ℤ × ℤ)) → IfOk (fold_of ps) IsNarrow
+fold_of_narrow ps = fold_narrow 0 (pos 0) ps (omega arith)
+
+pub narrow_from : (ps : List (ℤ × ℤ)) (r : Result ℤ WideSum) → r ≡ fold_of ps → IfOk r IsNarrow
+narrow_from ps r h = rw h (fold_of_narrow ps)
+
+pub narrow_for : (ps : List (ℤ × ℤ)) (r : Result ℤ WideSum) → r ≡ fold_of ps → (x : ℤ) → r ≡ Ok x → IsNarrow x
+narrow_for ps r h x e = let P : Result ℤ WideSum → Type 0 = λ s. IfOk s IsNarrow in subst P e (narrow_from ps r h)

@@ -1,0 +1,10 @@
+use Rattle.std.proofs.Common.{rules}
+use Rattle.bz_pass.specs.Certificates.{HasShape}
+use Rattle.bz_check.proofs.PassesChecked.{certificate_passes}
+use Rattle.bz_check.proofs.passing.passes.Goals as goal
+
+pub returns : goal.returns
+returns c =
+    let shape : HasShape c.args.split.now.model c.args.split.now.part c.args.certificate.now.parts = c.has_shape.ensures.0 (search rules) in
+    let shows = rw c.as_slice.ensures.value at c.in_ok-passes_in.ensures in
+    λ t. certificate_passes c.args.split.now.model c.args.split.now.part c.in_ok-ends.ends.items c.args.certificate.now shape c.in_ok-ends.ensures (shows.0 t)
