@@ -1,5 +1,5 @@
 -- What a sink has taken after several calls of `put_all`.
-use Rattle.std.proofs.Common.{◌≡◌, ℕ, ◌+◌, ◌-◌, ◌≤◌, List, [], ◌++◌, length, take, drop, Option, Some, None, Result, Ok, Err, OnOk, OnErr, refl, subst, sym, ◌∙◌, ap, append_assoc, arith, length-append}
+use Rattle.std.proofs.Common.{◌≡◌, ℕ, ◌+◌, List, ◌++◌, length, Option, Some, None, Result, Ok, Err, OnOk, OnErr, subst, append_assoc, arith, length-append}
 use Rattle.std.proofs.lemmas.List.{take-append-le}
 use Rattle.std.proofs.Math.Seq.{take-append-add}
 use Rattle.bz_io.specs.Told.{WhereTold}
@@ -26,7 +26,7 @@ prefix_behind xs ys None None None p q = tt
 prefix_behind xs ys (Some first) (Some then) (Some now) p q = record {
   count = length xs + q.count;
   within = rw (length-append xs ys) (omega (arith, q.within));
-  taken = rw (take-append-add xs ys q.count, q.taken, p, append_assoc)
+  taken = rw (take-append-add xs ys q.count, q.taken, p, append_assoc);
 }
 prefix_behind xs ys None (Some then) now p q = absurd p
 prefix_behind xs ys (Some first) None now p q = absurd p
@@ -39,7 +39,7 @@ prefix_before xs ys None None p = tt
 prefix_before xs ys (Some first) (Some now) p = record {
   count = p.count;
   within = rw (length-append xs ys) (omega (arith, p.within));
-  taken = rw (take-append-le p.count xs ys p.within) p.taken
+  taken = rw (take-append-le p.count xs ys p.within) p.taken;
 }
 prefix_before xs ys None (Some now) p = absurd p
 prefix_before xs ys (Some first) None p = absurd p
@@ -60,19 +60,19 @@ regrouped a b c d = simp append_assoc
 pub takes_line : (a b c d : List ℕ) (first then next now : Option (List ℕ)) → WhereTold (Takes a) first then → WhereTold (Takes b) then next → WhereTold (Takes (c ++ d)) next now → WhereTold (Takes ((a ++ (b ++ c)) ++ d)) first now
 takes_line a b c d first then next now p q r =
     subst (λ (t : List ℕ). WhereTold (Takes t) first now) (regrouped a b c d)
-      (takes_behind _ _ _ _ _ (takes_behind _ _ _ _ _ p q) r)
+    (takes_behind _ _ _ _ _ (takes_behind _ _ _ _ _ p q) r)
 
 pub prefix_of_line : (a b c d : List ℕ) (first then next now : Option (List ℕ)) → WhereTold (Takes a) first then → WhereTold (Takes b) then next → WhereTold (TakesPrefix (c ++ d)) next now → WhereTold (TakesPrefix ((a ++ (b ++ c)) ++ d)) first now
 prefix_of_line a b c d first then next now p q r =
     subst (λ (t : List ℕ). WhereTold (TakesPrefix t) first now) (regrouped a b c d)
-      (prefix_behind _ _ _ _ _ (takes_behind _ _ _ _ _ p q) r)
+    (prefix_behind _ _ _ _ _ (takes_behind _ _ _ _ _ p q) r)
 
 pub prefix_of_middle : (a b c d : List ℕ) (first then now : Option (List ℕ)) → WhereTold (Takes a) first then → WhereTold (TakesPrefix b) then now → WhereTold (TakesPrefix ((a ++ (b ++ c)) ++ d)) first now
 prefix_of_middle a b c d first then now p q =
     subst (λ (t : List ℕ). WhereTold (TakesPrefix t) first now) (regrouped a b c d)
-      (prefix_before _ _ _ _ (prefix_behind _ _ _ _ _ p q))
+    (prefix_before _ _ _ _ (prefix_behind _ _ _ _ _ p q))
 
 pub prefix_of_head : (a b c d : List ℕ) (first now : Option (List ℕ)) → WhereTold (TakesPrefix a) first now → WhereTold (TakesPrefix ((a ++ (b ++ c)) ++ d)) first now
 prefix_of_head a b c d first now p =
     subst (λ (t : List ℕ). WhereTold (TakesPrefix t) first now) (regrouped a b c d)
-      (prefix_before _ _ _ _ (prefix_before _ _ _ _ p))
+    (prefix_before _ _ _ _ (prefix_before _ _ _ _ p))

@@ -1,10 +1,10 @@
 -- The texts of fractions.
-use Rattle.std.proofs.Common.{◌≡◌, ℕ, suc, ◌<◌, Bool, List, [], ◌∷◌, ◌++◌, refl, sym, ap, subst, arith}
-use Rattle.std.specs.Prelude.{ℤ, pos, negsuc, ◌<ℤ◌, nat_eq, if◌then◌else◌}
+use Rattle.std.proofs.Common.{◌≡◌, Bool, [], ◌∷◌, ap, arith}
+use Rattle.std.specs.Prelude.{ℤ, pos, negsuc, ◌<ℤ◌, if◌then◌else◌}
 use Rattle.std.proofs.lemmas.Bool.{ne_eqb}
 use Rattle.std.proofs.lemmas.Int.{ints}
 use Rattle.std.specs.Fmt.{signed_decimal}
-use Rattle.bz_top.specs.Texts.{line, over_text}
+use Rattle.bz_top.specs.Texts.{over_text}
 
 -- nothing stands behind a numerator over 1
 pub over_one : (den : ℤ) → den ≡ pos 1 → over_text den ≡ []

@@ -30,7 +30,7 @@ block_line e = record { word = codes "block"; numbers = pos e.0 ∷ e.1.times �
 abbrev pub cut_line : Cut → CertLine
 cut_line cut = record {
   word = codes "cut";
-  numbers = pos cut.block ∷ cut.p0 ∷ cut.beta ∷ cut.gcd ∷ (sparse_numbers cut.alpha ++ sparse_numbers cut.mu)
+  numbers = pos cut.block ∷ cut.p0 ∷ cut.beta ∷ cut.gcd ∷ (sparse_numbers cut.alpha ++ sparse_numbers cut.mu);
 }
 
 -- the lines of a certificate, in order

@@ -1,5 +1,5 @@
 -- How the program ends, and what it prints then.
-use Rattle.std.specs.Prelude.{ℕ, List, [], ◌++◌, codes}
+use Rattle.std.specs.Prelude.{ℕ, List, [], ◌++◌, codes, Result, Ok, Err}
 use Rattle.bz_top.specs.declared.status.File.{File}
 use Rattle.bz_top.specs.declared.status.File.TheVariants.{Model as ModelFile, Part as PartFile, Cert as CertFile}
 use Rattle.bz_top.specs.declared.status.Refusal.{Refusal}
@@ -68,3 +68,21 @@ file_of refusal.Check = CertFile
 file_of (refusal.Read file) = file
 file_of (refusal.TooLong file) = file
 file_of refusal.Memory = ModelFile
+
+-- the status after the last text: that of a write where the text could not be put whole
+abbrev pub status_after : {T E : Type 0} → Result T E → Status → Status
+status_after (Ok _) s = s
+status_after (Err _) s = status.Write
+
+-- a status with a refusal's text
+abbrev pub IsRefused : Status → Type 0
+IsRefused status.Done = ⊥
+IsRefused status.Unresolved = ⊥
+IsRefused status.Usage = ⊥
+IsRefused status.Model = Unit {0}
+IsRefused status.Part = Unit {0}
+IsRefused status.Read = Unit {0}
+IsRefused status.Write = ⊥
+IsRefused status.Memory = Unit {0}
+IsRefused status.Cert = Unit {0}
+IsRefused status.TooLong = Unit {0}

@@ -18,3 +18,12 @@ pub record AsksToCheck (words : List (List ℕ)) (model part cert : List ℕ) : 
 -- the words ask for the job
 abbrev pub JobOf : List (List ℕ) → Job → Type 0
 JobOf words (Check model part cert) = AsksToCheck words model part cert
+
+-- the words ask for some job
+pub record SomeJob (words : List (List ℕ)) : Type 0 where
+  pub job : Job
+  pub asked : JobOf words job
+
+-- the words ask for nothing that the program does
+abbrev pub IsJobless : List (List ℕ) → Type 0
+IsJobless words = (job : Job) → ¬ JobOf words job

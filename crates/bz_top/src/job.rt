@@ -16,6 +16,7 @@ pub struct FileName {
 impl Model for FileName {
     ghost use Rattle.std.specs.Prelude.{List, ℕ};
     ghost use Rattle.std.specs.String.{string_bytes};
+
     ghost Value = { List ℕ };
 
     ghost view = { λ n. string_bytes n.text };
@@ -46,13 +47,4 @@ pub enum Job {
         part: FileName,
         cert: FileName,
     },
-}
-
-/// Why words have no job.
-#[derive(Drop)]
-pub enum WordsFault {
-    /// They aren't of a form that the program knows.
-    Usage,
-    /// There is no memory for the names.
-    OutOfMemory,
 }

@@ -1,17 +1,24 @@
 //! The texts that the program prints. None of them takes memory.
 ghost use Rattle.std.specs.Prelude.{◌≡◌, ◌++◌, ℤ, pos, ◌<ℤ◌, OnOk, OnErr, codes, [], ◌∷◌};
+ghost use Rattle.bz_check.specs.Stated.{stated_fraction};
 ghost use Rattle.bz_io.specs.Faults.{CountsFault};
 ghost use Rattle.bz_io.specs.Sink.{Takes, TakesPrefix};
 ghost use Rattle.bz_io.specs.Told.{WhereTold};
 ghost use Rattle.bz_top.specs.Ends.{refusal_head as head_of, refusal_name as name_in, refusal_text};
-ghost use Rattle.bz_top.specs.Texts.{line, over_text, holds_text};
+ghost use Rattle.bz_top.specs.Texts.{line, over_text, holds_text, usage_text};
 
 use crate::status::{File, Refusal};
+use bz_check::Stated;
 use bz_io::{PutFailed, Sink, put_all};
 use itoa::Buffer;
 
 /// Puts the three pieces, one after another.
-fn put_three<O: Sink>(out: &mut O, first: &[u8], second: &[u8], third: &[u8]) -> Result<(), PutFailed>
+fn put_three<O: Sink>(
+    out: &mut O,
+    first: &[u8],
+    second: &[u8],
+    third: &[u8],
+) -> Result<(), PutFailed>
     ensures ok { OnOk result (WhereTold (Takes (first.now ++ second.now ++ third.now)) (O.taken out.old) (O.taken out.new)) }
     ensures failed { OnErr result (WhereTold (TakesPrefix (first.now ++ second.now ++ third.now)) (O.taken out.old) (O.taken out.new)) }
     ensures count { CountsFault result (O.faults out.old) (O.faults out.new) }
@@ -35,17 +42,16 @@ fn put_over<O: Sink>(out: &mut O, den: i128) -> Result<(), PutFailed>
     put_three(out, b"/", buffer.format(den).as_bytes(), b"\n")
 }
 
-/// Puts the line of a certificate that holds, with the fraction `num / den` in lowest terms.
-pub(crate) fn put_holds<O: Sink>(out: &mut O, num: i128, den: i128) -> Result<(), PutFailed>
-    requires { pos 0 <ℤ den }
-    ensures ok { OnOk result (WhereTold (Takes (holds_text (record { num = num; den = den }))) (O.taken out.old) (O.taken out.new)) }
-    ensures failed { OnErr result (WhereTold (TakesPrefix (holds_text (record { num = num; den = den }))) (O.taken out.old) (O.taken out.new)) }
+/// Puts the line of a certificate that holds, with the stated objective.
+pub(crate) fn put_holds<O: Sink>(out: &mut O, stated: Stated) -> Result<(), PutFailed>
+    ensures ok { OnOk result (WhereTold (Takes (holds_text (stated_fraction stated))) (O.taken out.old) (O.taken out.new)) }
+    ensures failed { OnErr result (WhereTold (TakesPrefix (holds_text (stated_fraction stated))) (O.taken out.old) (O.taken out.new)) }
     ensures count { CountsFault result (O.faults out.old) (O.faults out.new) }
 {
     let mut buffer = Buffer::new();
     put_all(out, b"certificate holds: optimal ")?;
-    put_all(out, buffer.format(num).as_bytes())?;
-    put_over(out, den)
+    put_all(out, buffer.format(stated.num).as_bytes())?;
+    put_over(out, stated.den)
 }
 
 /// What the text of a refusal begins with.
@@ -74,10 +80,31 @@ fn refusal_name(refusal: Refusal, name: &str) -> &[u8]
 }
 
 /// Puts the text of a refusal. `name` is that of the file which it is of.
-pub(crate) fn put_refusal<O: Sink>(out: &mut O, refusal: Refusal, name: &str) -> Result<(), PutFailed>
+pub(crate) fn put_refusal<O: Sink>(
+    out: &mut O,
+    refusal: Refusal,
+    name: &str,
+) -> Result<(), PutFailed>
     ensures ok { OnOk result (WhereTold (Takes (refusal_text refusal name.now)) (O.taken out.old) (O.taken out.new)) }
     ensures failed { OnErr result (WhereTold (TakesPrefix (refusal_text refusal name.now)) (O.taken out.old) (O.taken out.new)) }
     ensures count { CountsFault result (O.faults out.old) (O.faults out.new) }
 {
-    put_three(out, refusal_head(refusal), refusal_name(refusal, name), b"\n")
+    put_three(
+        out,
+        refusal_head(refusal),
+        refusal_name(refusal, name),
+        b"\n",
+    )
+}
+
+/// Puts the usage line.
+pub(crate) fn put_usage<O: Sink>(out: &mut O) -> Result<(), PutFailed>
+    ensures ok { OnOk result (WhereTold (Takes usage_text) (O.taken out.old) (O.taken out.new)) }
+    ensures failed { OnErr result (WhereTold (TakesPrefix usage_text) (O.taken out.old) (O.taken out.new)) }
+    ensures count { CountsFault result (O.faults out.old) (O.faults out.new) }
+{
+    put_all(
+        out,
+        b"usage: solve MODEL PART CERT [--budget=N] [--workers=N] | check MODEL PART CERT | split MODEL PART | try N\n",
+    )
 }

@@ -69,3 +69,32 @@ pub(crate) enum Refusal {
     /// There is no memory.
     Memory,
 }
+
+impl Refusal {
+    ghost use Rattle.bz_top.specs.Ends.{file_of, status_of};
+
+    /// The status that the program ends with.
+    pub(crate) fn status(self) -> Status
+        ensures { result ≡ status_of self }
+    {
+        match self {
+            Refusal::Form(File::Model) => Status::Model,
+            Refusal::Form(File::Part) => Status::Part,
+            Refusal::Form(File::Cert) | Refusal::Check => Status::Cert,
+            Refusal::Read(_) => Status::Read,
+            Refusal::TooLong(_) => Status::TooLong,
+            Refusal::Memory => Status::Memory,
+        }
+    }
+
+    /// The file that it is of; the model's where it is of none.
+    pub(crate) fn file(self) -> File
+        ensures { result ≡ file_of self }
+    {
+        match self {
+            Refusal::Form(file) | Refusal::Read(file) | Refusal::TooLong(file) => file,
+            Refusal::Check => File::Cert,
+            Refusal::Memory => File::Model,
+        }
+    }
+}

@@ -1,0 +1,51 @@
+use Rattle.std.proofs.Common.{ℕ, List, ◌≡◌, subst, sym}
+use Rattle.bz_algebra.specs.Fractions.{IsSameNumber}
+use Rattle.bz_check.specs.Stated.{IsReduced, stated_fraction}
+use Rattle.bz_check.specs.declared.Stated.{Stated}
+use Rattle.bz_model.specs.Splits.{IsSplit}
+use Rattle.bz_pass.specs.Certificates.{Passes, stated_objective}
+use Rattle.bz_pass.proofs.Optimality.{passing_optimal}
+use Rattle.bz_pass.proofs.SomePoint.{passing_point}
+use Rattle.bz_top.specs.declared.status.File.TheVariants.{Cert as CertFile}
+use Rattle.bz_top.specs.declared.status.Refusal.{Refusal}
+use Rattle.bz_top.specs.CertText.{IsCertText}
+use Rattle.bz_top.specs.Claims.{IsCause, RefusesCheck, Shown}
+use Rattle.bz_top.proofs.Causes.{cert_reached, load_cause, held_at_first, refused_form, if_err_and, if_err_then, if_ok_then, check_refused}
+use Rattle.bz_top.proofs.Showing.{shows}
+use Rattle.bz_top.proofs.check.check_files.Goals as goal
+
+pub returns-in_err-text-clause-cause : goal.returns-in_err-text-clause-cause
+returns-in_err-text-clause-cause g c =
+    if_err_and {T = Stated} {E = Refusal} {P = λ r. r ≡ c.in_err-text.field-0.0} {Q = IsCause (g.D.Desk.held c.args.desk.now) c.args.job.now}
+    c.from_residual-in_err-text.result c.from_residual-in_err-text.ensures.1
+    (λ refusal same. subst (λ (r : Refusal). IsCause (g.D.Desk.held c.args.desk.now) c.args.job.now r) (sym same)
+    (load_cause _ _ _ CertFile _ c.in_ok-split.ensures.kept (cert_reached _ _ _ c.in_ok-split.ensures.accepted) c.in_err-text.ensures.refused))
+
+pub returns-in-Err-clause-cause : goal.returns-in-Err-clause-cause
+returns-in-Err-clause-cause g c =
+    let held = held_at_first _ _ c.args.job.now CertFile _ c.in_ok-split.ensures.kept c.in_ok-text.ensures.whole in
+    refused_form _ _ _ _ _ _ (cert_reached _ _ _ c.in_ok-split.ensures.accepted) held c.in_ok-text.ensures.within c.refuse.ensures
+
+pub returns-clause-shown : goal.returns-clause-shown
+returns-clause-shown g c =
+    let reads : IsCertText c.in_ok-text.text.items c.in-Ok.certificate =
+    subst (λ (text : List ℕ). IsCertText text c.in-Ok.certificate) c.as_slice.ensures.value c.in-Ok.ensures in
+    if_ok_then {T = Stated} {E = Refusal}
+    {P1 = λ _. Passes c.in_ok-split.split.model c.in_ok-split.split.part c.in-Ok.certificate}
+    {P2 = λ s. IsSameNumber (stated_fraction s) (stated_objective c.in_ok-split.split.model c.in-Ok.certificate)}
+    {P3 = λ s. IsReduced (stated_fraction s)}
+    {P4 = λ _. IsSplit c.in_ok-split.split}
+    {Q = λ s. Shown (g.D.Desk.held c.args.desk.now) c.args.job.now (stated_fraction s)}
+    c.agree.result
+    (λ s passes same reduced split. shows passing_optimal passing_point _ _ _ _ _ _ _ split c.in_ok-split.ensures.accepted
+    c.in_ok-split.ensures.kept c.in_ok-text.ensures.whole c.in_ok-text.ensures.within reads passes same reduced)
+    c.agree.ensures.passes c.agree.ensures.same c.agree.ensures.reduced c.agree.ensures.split
+
+pub returns-clause-cause : goal.returns-clause-cause
+returns-clause-cause g c =
+    let held = held_at_first _ _ c.args.job.now CertFile _ c.in_ok-split.ensures.kept c.in_ok-text.ensures.whole in
+    let reads : IsCertText c.in_ok-text.text.items c.in-Ok.certificate =
+    subst (λ (text : List ℕ). IsCertText text c.in-Ok.certificate) c.as_slice.ensures.value c.in-Ok.ensures in
+    if_err_then {T = Stated} {E = Refusal} {P = RefusesCheck} {Q = IsCause (g.D.Desk.held c.args.desk.now) c.args.job.now} c.agree.result
+    (λ r refuses. check_refused _ _ _ _ _ r c.in_ok-split.ensures.accepted held c.in_ok-text.ensures.within reads refuses)
+    c.agree.ensures.refused

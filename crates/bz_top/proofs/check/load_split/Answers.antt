@@ -1,0 +1,26 @@
+use Rattle.std.proofs.Common.{ℕ, List, ◌≡◌, subst, sym}
+use Rattle.bz_model.specs.declared.Split.{Split}
+use Rattle.bz_top.specs.declared.status.File.TheVariants.{Part as PartFile}
+use Rattle.bz_top.specs.declared.status.Refusal.{Refusal}
+use Rattle.bz_top.specs.Claims.{IsCause}
+use Rattle.bz_top.specs.ModelText.{IsModelText}
+use Rattle.bz_top.proofs.Causes.{part_reached, load_cause, held_at_first, refused_form, if_err_and}
+use Rattle.bz_top.proofs.check.load_split.Goals as goal
+
+pub returns-in_err-text-2-clause-cause : goal.returns-in_err-text-2-clause-cause
+returns-in_err-text-2-clause-cause g c =
+    let reads : IsModelText c.in_ok-text.text.items c.in-Ok.model =
+    subst (λ (text : List ℕ). IsModelText text c.in-Ok.model) c.as_slice.ensures.value c.in-Ok.ensures.reads in
+    if_err_and {T = Split} {E = Refusal} {P = λ r. r ≡ c.in_err-text-2.field-0.0} {Q = IsCause (g.D.Desk.held c.args.desk.now) c.args.job.now}
+    c.from_residual-in_err-text-2.result c.from_residual-in_err-text-2.ensures.1
+    (λ refusal same. subst (λ (r : Refusal). IsCause (g.D.Desk.held c.args.desk.now) c.args.job.now r) (sym same)
+    (load_cause _ _ _ PartFile _ c.in_ok-text.ensures.kept
+    (part_reached _ _ _ _ c.in_ok-text.ensures.whole c.in_ok-text.ensures.within reads) c.in_err-text-2.ensures.refused))
+
+pub returns-in-Err-read_part-clause-cause : goal.returns-in-Err-read_part-clause-cause
+returns-in-Err-read_part-clause-cause g c =
+    let reads : IsModelText c.in_ok-text.text.items c.in-Ok.model =
+    subst (λ (text : List ℕ). IsModelText text c.in-Ok.model) c.as_slice.ensures.value c.in-Ok.ensures.reads in
+    let held = held_at_first _ _ c.args.job.now PartFile _ c.in_ok-text.ensures.kept c.in_ok-text-2.ensures.whole in
+    refused_form _ _ _ _ _ _ (part_reached _ _ _ _ c.in_ok-text.ensures.whole c.in_ok-text.ensures.within reads) held
+    c.in_ok-text-2.ensures.within c.refuse-in-Err-read_part.ensures

@@ -1,0 +1,94 @@
+//! The top call.
+ghost use Rattle.std.specs.Prelude.{◌≡◌, ◌≢◌, ◌⊎◌, map};
+ghost use Rattle.std.specs.String.{string_bytes};
+ghost use Rattle.bz_io.specs.Desk.{IsSame};
+ghost use Rattle.bz_io.specs.Faults.{HasRisen};
+ghost use Rattle.bz_io.specs.Sink.{Takes};
+ghost use Rattle.bz_io.specs.Told.{WhereTold};
+ghost use Rattle.bz_top.specs.Claims.{ShowsOptimumOf, ShowsOptimumAsked, RefusesJob, RefusesAsked, BreaksOff, BreaksOffAsked, BreaksOffUsage};
+ghost use Rattle.bz_top.specs.Ends.{status_after as after_put, IsRefused};
+ghost use Rattle.bz_top.specs.Jobs.{IsJobless};
+ghost use Rattle.bz_top.specs.Texts.{usage_text};
+
+use crate::check::{check_files, file_name};
+use crate::job::Job;
+use crate::print::{put_holds, put_refusal, put_usage};
+use crate::status::{Refusal, Status};
+use crate::words::{WordsFault, read_words};
+use bz_io::{Desk, PutFailed, Sink};
+use std::alloc::Global;
+
+/// The status after the last text: that of a write where the text could not be put whole.
+fn status_after(put: Result<(), PutFailed>, status: Status) -> Status
+    ensures { result ≡ after_put put status }
+{
+    match put {
+        Ok(()) => status,
+        Err(_) => Status::Write,
+    }
+}
+
+/// Does the job: checks the certificate, and prints whether it holds.
+pub fn do_alone<D: Desk, O: Sink>(alloc: Global, job: &Job, desk: &mut D, out: &mut O) -> Status
+    // The point of the certificate is optimal in the model, and the printed number is its objective.
+    ensures done { result ≡ Status.Done → ShowsOptimumOf (D.held desk.old) job.now (O.taken out.old) (O.taken out.new) }
+
+    // Every other status is that of a refusal with its cause and its text, or a text could not be put whole.
+    ensures never { (result ≢ Status.Usage) × (result ≢ Status.Unresolved) }
+    ensures refused { IsRefused result → RefusesJob (D.held desk.old) job.now result (O.taken out.old) (O.taken out.new) }
+    ensures written { result ≡ Status.Write → BreaksOff (D.held desk.old) job.now (O.taken out.old) (O.taken out.new) }
+
+    // A count of faults rises where the status says so, and else stays.
+    ensures read { result ≡ Status.Read → HasRisen (D.faults desk.old) (D.faults desk.new) }
+    ensures read_well { result ≢ Status.Read → result ≢ Status.Write → D.faults desk.new ≡ D.faults desk.old }
+    ensures write { result ≡ Status.Write → HasRisen (O.faults out.old) (O.faults out.new) }
+    ensures written_well { result ≢ Status.Write → O.faults out.new ≡ O.faults out.old }
+
+    // No name is changed.
+    ensures kept { WhereTold IsSame (D.held desk.old) (D.held desk.new) }
+{
+    match check_files(alloc, job, desk) {
+        Ok(stated) => status_after(put_holds(out, stated), Status::Done),
+        Err(refusal) => status_after(
+            put_refusal(out, refusal, file_name(job, refusal.file())),
+            refusal.status(),
+        ),
+    }
+}
+
+/// Does what the words ask for. This is all that the program does.
+pub fn run<D: Desk, O: Sink>(alloc: Global, words: &[String], desk: &mut D, out: &mut O) -> Status
+    // The words ask for the check of three files. The point of the certificate is optimal in the model, and the
+    // printed number is its objective.
+    ensures done { result ≡ Status.Done → ShowsOptimumAsked (map string_bytes words.now) (D.held desk.old) (O.taken out.old) (O.taken out.new) }
+
+    // Words without a job are refused, and no others. Their files aren't touched.
+    ensures usage { result ≡ Status.Usage → IsJobless (map string_bytes words.now) }
+    ensures usage_text { result ≡ Status.Usage → WhereTold (Takes usage_text) (O.taken out.old) (O.taken out.new) }
+    ensures jobless { IsJobless (map string_bytes words.now) → (result ≡ Status.Usage) ⊎ (result ≡ Status.Write) }
+    ensures untouched { IsJobless (map string_bytes words.now) → D.faults desk.new ≡ D.faults desk.old }
+
+    // Every other status is that of a refusal with its cause and its text, or a text could not be put whole.
+    ensures never { result ≢ Status.Unresolved }
+    ensures refused { IsRefused result → RefusesAsked (map string_bytes words.now) (D.held desk.old) result (O.taken out.old) (O.taken out.new) }
+    ensures written { result ≡ Status.Write →
+        BreaksOffAsked (map string_bytes words.now) (D.held desk.old) (O.taken out.old) (O.taken out.new)
+        ⊎ BreaksOffUsage (map string_bytes words.now) (O.taken out.old) (O.taken out.new) }
+
+    // A count of faults rises where the status says so, and else stays.
+    ensures read { result ≡ Status.Read → HasRisen (D.faults desk.old) (D.faults desk.new) }
+    ensures read_well { result ≢ Status.Read → result ≢ Status.Write → D.faults desk.new ≡ D.faults desk.old }
+    ensures write { result ≡ Status.Write → HasRisen (O.faults out.old) (O.faults out.new) }
+    ensures written_well { result ≢ Status.Write → O.faults out.new ≡ O.faults out.old }
+
+    // No name is changed.
+    ensures kept { WhereTold IsSame (D.held desk.old) (D.held desk.new) }
+{
+    match read_words(alloc, words) {
+        Ok(job) => do_alone(alloc, &job, desk, out),
+        Err(WordsFault::Usage) => status_after(put_usage(out), Status::Usage),
+        Err(WordsFault::OutOfMemory) => {
+            status_after(put_refusal(out, Refusal::Memory, ""), Status::Memory)
+        }
+    }
+}
