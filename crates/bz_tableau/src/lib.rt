@@ -1,0 +1,22 @@
+//! Linear programs in whole numbers, and the exact tableaus of their bases.
+#![tactic(auto)]
+
+mod answers;
+mod division;
+mod first;
+mod laws;
+mod line;
+mod next;
+mod programs;
+mod reducing;
+mod sharing;
+mod steps;
+mod tableau;
+
+pub use answers::{Answer, LpStop, Vals, WideAt};
+pub use laws::tableau_has_rows_of_basis;
+pub use programs::{Lp, LpRow};
+pub use tableau::Tableau;
+
+#[cfg(test)]
+mod tests;
