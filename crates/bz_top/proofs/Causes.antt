@@ -7,18 +7,18 @@ use Rattle.bz_model.specs.declared.Model.{Model}
 use Rattle.bz_model.specs.Splits.{Decomposition}
 use Rattle.bz_model.specs.Strict.{IsStrict}
 use Rattle.bz_pass.specs.declared.Certificate.{Certificate}
-use Rattle.bz_top.specs.declared.form.FormStop.{FormStop}
-use Rattle.bz_top.specs.declared.form.FormStop.TheVariants.{Outside, OutOfMemory}
+use Rattle.bz_lines.specs.declared.form.FormStop.{FormStop}
+use Rattle.bz_lines.specs.declared.form.FormStop.TheVariants.{Outside, OutOfMemory}
 use Rattle.bz_top.specs.declared.job.Job.{Job}
 use Rattle.bz_top.specs.declared.status.File.{File}
 use Rattle.bz_top.specs.declared.status.File.TheVariants.{Model as ModelFile, Part as PartFile, Cert as CertFile}
 use Rattle.bz_top.specs.declared.status.Refusal.{Refusal}
 use Rattle.bz_top.specs.declared.status.Refusal.TheVariants.{Form, Check, Read, TooLong, Memory}
-use Rattle.bz_top.specs.CertText.{IsCertText}
+use Rattle.bz_cert.specs.CertText.{IsCertText}
 use Rattle.bz_top.specs.Claims.{Accepted, IsCause, IsReached, IsTooLong, RefusesCheck, RefusesFile, limit_of, refusal_of}
 use Rattle.bz_top.specs.Ends.{name_of}
-use Rattle.bz_top.specs.ModelText.{IsModelText}
-use Rattle.bz_top.specs.PartText.{IsPartText}
+use Rattle.bz_mps.specs.ModelText.{IsModelText}
+use Rattle.bz_part.specs.PartText.{IsPartText}
 
 -- the file's turn comes, where the desk tells what it holds
 abbrev pub Reached : Option Contents → Job → File → Type 0

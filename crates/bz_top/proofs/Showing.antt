@@ -14,7 +14,7 @@ use Rattle.bz_pass.specs.Certificates.{Passes, IsPointOf, stated_objective}
 use Rattle.bz_pass.specs.Laws.{IsProved, PassingIsOptimal, PassingHasAPoint}
 use Rattle.bz_top.specs.declared.job.Job.{Job}
 use Rattle.bz_top.specs.declared.status.File.TheVariants.{Cert as CertFile}
-use Rattle.bz_top.specs.CertText.{IsCertText}
+use Rattle.bz_cert.specs.CertText.{IsCertText}
 use Rattle.bz_top.specs.Claims.{Accepted, Shown, limit_of}
 use Rattle.bz_top.specs.Ends.{name_of}
 use Rattle.bz_check.specs.Stated.{IsReduced}

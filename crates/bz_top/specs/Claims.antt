@@ -12,19 +12,19 @@ use Rattle.bz_model.specs.Points.{objective, IsOptimal}
 use Rattle.bz_model.specs.Strict.{IsStrict}
 use Rattle.bz_pass.specs.declared.Certificate.{Certificate}
 use Rattle.bz_pass.specs.Certificates.{Passes, IsPointOf}
-use Rattle.bz_top.specs.declared.form.FormStop.{FormStop}
-use Rattle.bz_top.specs.declared.form.FormStop.TheVariants.{Outside, OutOfMemory}
+use Rattle.bz_lines.specs.declared.form.FormStop.{FormStop}
+use Rattle.bz_lines.specs.declared.form.FormStop.TheVariants.{Outside, OutOfMemory}
 use Rattle.bz_top.specs.declared.job.Job.{Job}
 use Rattle.bz_top.specs.declared.status.File.{File}
 use Rattle.bz_top.specs.declared.status.File.TheVariants.{Model as ModelFile, Part as PartFile, Cert as CertFile}
 use Rattle.bz_top.specs.declared.status.Refusal.{Refusal}
 use Rattle.bz_top.specs.declared.status.Refusal.TheVariants.{Form, Check, Read, TooLong, Memory}
-use Rattle.bz_top.specs.CertText.{IsCertText}
+use Rattle.bz_cert.specs.CertText.{IsCertText}
 use Rattle.bz_top.specs.declared.status.Status.{Status}
 use Rattle.bz_top.specs.Ends.{name_of, status_of, refusal_text, file_of}
 use Rattle.bz_top.specs.Jobs.{JobOf, IsJobless}
-use Rattle.bz_top.specs.ModelText.{IsModelText}
-use Rattle.bz_top.specs.PartText.{IsPartText}
+use Rattle.bz_mps.specs.ModelText.{IsModelText}
+use Rattle.bz_part.specs.PartText.{IsPartText}
 use Rattle.bz_top.specs.Texts.{holds_text, usage_text}
 
 -- the most bytes that a file may have: 16 MiB for a model and a partition, 64 MiB for a certificate

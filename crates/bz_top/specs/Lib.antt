@@ -1,16 +1,4 @@
-pub mod CertReading
-pub mod CertText
 pub mod Claims
-pub mod ColumnReading
 pub mod Ends
 pub mod Jobs
-pub mod Lines
-pub mod LinesBefore
-pub mod ModelText
-pub mod PartReading
-pub mod PartText
-pub mod ReadSections
-pub mod Sections
-pub mod SmallNumbers
-pub mod StrictTests
 pub mod Texts

@@ -9,11 +9,11 @@ ghost use Rattle.bz_check.specs.Stated.{IsReduced, stated_fraction};
 ghost use Rattle.bz_model.specs.Splits.{IsSplit};
 ghost use Rattle.bz_pass.specs.Certificates.{Passes, stated_objective};
 
-use crate::form::FormStop;
 use crate::job::Job;
-use crate::read_cert::read_cert;
-use crate::read_model::read_model;
-use crate::read_part::read_part;
+use bz_lines::FormStop;
+use bz_cert::read_cert;
+use bz_mps::read_model;
+use bz_part::read_part;
 use crate::status::{File, Refusal};
 use bz_check::{Stated, passes, stated_of};
 use bz_io::{Desk, LoadError};

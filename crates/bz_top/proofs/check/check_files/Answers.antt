@@ -8,7 +8,7 @@ use Rattle.bz_pass.proofs.Optimality.{passing_optimal}
 use Rattle.bz_pass.proofs.SomePoint.{passing_point}
 use Rattle.bz_top.specs.declared.status.File.TheVariants.{Cert as CertFile}
 use Rattle.bz_top.specs.declared.status.Refusal.{Refusal}
-use Rattle.bz_top.specs.CertText.{IsCertText}
+use Rattle.bz_cert.specs.CertText.{IsCertText}
 use Rattle.bz_top.specs.Claims.{IsCause, RefusesCheck, Shown}
 use Rattle.bz_top.proofs.Causes.{cert_reached, load_cause, held_at_first, refused_form, if_err_and, if_err_then, if_ok_then, check_refused}
 use Rattle.bz_top.proofs.Showing.{shows}

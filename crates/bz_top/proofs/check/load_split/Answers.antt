@@ -3,7 +3,7 @@ use Rattle.bz_model.specs.declared.Split.{Split}
 use Rattle.bz_top.specs.declared.status.File.TheVariants.{Part as PartFile}
 use Rattle.bz_top.specs.declared.status.Refusal.{Refusal}
 use Rattle.bz_top.specs.Claims.{IsCause}
-use Rattle.bz_top.specs.ModelText.{IsModelText}
+use Rattle.bz_mps.specs.ModelText.{IsModelText}
 use Rattle.bz_top.proofs.Causes.{part_reached, load_cause, held_at_first, refused_form, if_err_and}
 use Rattle.bz_top.proofs.check.load_split.Goals as goal
 

@@ -1,0 +1,2 @@
+pub mod CertReading
+pub mod CertText

@@ -1,0 +1,5 @@
+pub mod FieldLists
+pub mod Lines
+pub mod LinesBefore
+pub mod NameLists
+pub mod SmallNumbers

@@ -1,0 +1,10 @@
+pub mod ColumnLines
+pub mod FactReading
+pub mod HeadLines
+pub mod ModelColumns
+pub mod ModelMade
+pub mod ModelRows
+pub mod RowReading
+pub mod SectionReading
+pub mod SideReading
+pub mod TermReading

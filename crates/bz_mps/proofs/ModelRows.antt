@@ -1,0 +1,53 @@
+-- One more row of a model.
+use Rattle.std.proofs.Common.{zero-add, ℕ, ℤ, true, false, List, [], ◌∷◌, ◌++◌, ◌≡◌, take, get_or, ◌<◌, ◌+◌, subst, ap, sym, ◌∙◌, arith, filter, if◌then◌else◌, not}
+use Rattle.std.specs.Prelude.{length, codes}
+use Rattle.std.specs.List.{AllByRecursion, AllZip, enumerate_from}
+use Rattle.std.proofs.lemmas.List.{take_more, append-nil}
+use Rattle.std.proofs.Math.Seq.{take-length}
+use Rattle.std.proofs.lemmas.List.FromFn.{get_or-enumerate_from, length-enumerate_from}
+use Rattle.indexmap.proofs.SetLemmas.{AllZip-push}
+use Rattle.bz_algebra.specs.Sums.{AllBelow}
+use Rattle.bz_model.specs.declared.records.Row.{Row}
+use Rattle.bz_mps.specs.declared.model_columns.Entry.{Entry}
+use Rattle.bz_mps.specs.ModelText.{IsRowOf, is_kind}
+use Rattle.bz_lines.specs.FieldLists.{Fields}
+use Rattle.bz_mps.proofs.HeadLines.{filter_push, all_push}
+
+pub record RowsBuilt (count : ℕ) (entries : List Entry) (sides : List (ℕ × ℤ)) (numbered : List (ℕ × Fields)) (built : List Row) : Type 0 where
+  pub rows : AllZip (IsRowOf entries sides) (filter (λ r. not (is_kind (codes "N") r.1)) numbered) built
+  pub below : AllByRecursion (λ row. AllBelow count row.terms) built
+
+next_numbered : (ls : List Fields) (i : ℕ) (l : Fields) → i < length ls → l ≡ get_or ls i l → take (i + 1) (enumerate_from 0 ls) ≡ take i (enumerate_from 0 ls) ++ (i, l) ∷ []
+next_numbered ls i l h e =
+    let m : length (enumerate_from 0 ls) ≡ length ls = length-enumerate_from 0 ls in
+    take_more (enumerate_from 0 ls) i (0, l) (omega arith)
+    ∙ ap (λ x. take i (enumerate_from 0 ls) ++ x ∷ []) (get_or-enumerate_from 0 ls i (0, l) h ∙ ap (λ k. (k, get_or ls i l)) (zero-add i) ∙ ap (λ x. (i, x)) (sym e))
+
+pub rows_skipped : (count : ℕ) (entries : List Entry) (sides : List (ℕ × ℤ)) (ls : List Fields) (i : ℕ) (l : Fields) (rows : List Row) → i < length ls → l ≡ get_or ls i l
+    → RowsBuilt count entries sides (take i (enumerate_from 0 ls)) rows → is_kind (codes "N") l ≡ true → RowsBuilt count entries sides (take (i + 1) (enumerate_from 0 ls)) rows
+rows_skipped count entries sides ls i l rows h e r k =
+    subst (λ ns. RowsBuilt count entries sides ns rows) (sym (next_numbered ls i l h e)) (record {
+      rows = subst (λ ns. AllZip (IsRowOf entries sides) ns rows)
+          (sym (filter_push (λ r. not (is_kind (codes "N") r.1)) (take i (enumerate_from 0 ls)) (i, l)
+          ∙ ap (λ b. filter (λ r. not (is_kind (codes "N") r.1)) (take i (enumerate_from 0 ls)) ++ (if not b then (i, l) ∷ [] else [])) k ∙ append-nil _)) r.rows;
+      below = r.below;
+    })
+
+pub rows_added : (count : ℕ) (entries : List Entry) (sides : List (ℕ × ℤ)) (ls : List Fields) (i : ℕ) (l : Fields) (row : Row) (old new : List Row) → i < length ls → l ≡ get_or ls i l
+    → RowsBuilt count entries sides (take i (enumerate_from 0 ls)) old → is_kind (codes "N") l ≡ false
+    → IsRowOf entries sides (i, l) row → AllBelow count row.terms → new ≡ old ++ row ∷ []
+    → RowsBuilt count entries sides (take (i + 1) (enumerate_from 0 ls)) new
+rows_added count entries sides ls i l row old new h e r k is below push =
+    subst (λ rs. RowsBuilt count entries sides (take (i + 1) (enumerate_from 0 ls)) rs) (sym push)
+    (subst (λ ns. RowsBuilt count entries sides ns (old ++ row ∷ [])) (sym (next_numbered ls i l h e)) (record {
+      rows = subst (λ ns. AllZip (IsRowOf entries sides) ns (old ++ row ∷ []))
+          (sym (filter_push (λ r. not (is_kind (codes "N") r.1)) (take i (enumerate_from 0 ls)) (i, l)
+          ∙ ap (λ b. filter (λ r. not (is_kind (codes "N") r.1)) (take i (enumerate_from 0 ls)) ++ (if not b then (i, l) ∷ [] else [])) k))
+          (AllZip-push (IsRowOf entries sides) (filter (λ r. not (is_kind (codes "N") r.1)) (take i (enumerate_from 0 ls))) old (i, l) row r.rows is);
+      below = all_push (λ row. AllBelow count row.terms) old row r.below below;
+    }))
+
+pub rows_ended : (count : ℕ) (entries : List Entry) (sides : List (ℕ × ℤ)) (ls : List Fields) (i : ℕ) (rows : List Row) → i ≡ length ls
+    → RowsBuilt count entries sides (take i (enumerate_from 0 ls)) rows → RowsBuilt count entries sides (enumerate_from 0 ls) rows
+rows_ended count entries sides ls i rows e r =
+    subst (λ ns. RowsBuilt count entries sides ns rows) (ap (λ n. take n (enumerate_from 0 ls)) (e ∙ sym (length-enumerate_from 0 ls)) ∙ take-length (enumerate_from 0 ls)) r

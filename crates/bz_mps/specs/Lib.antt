@@ -1,0 +1,4 @@
+pub mod ColumnReading
+pub mod ModelText
+pub mod ReadSections
+pub mod Sections

@@ -1,0 +1,20 @@
+//! Models from their texts.
+#![tactic(auto)]
+
+mod model_bounds;
+mod model_column_lines;
+mod model_columns;
+mod model_facts;
+mod model_lines;
+mod model_made;
+mod model_made_rows;
+mod model_once;
+mod model_rows;
+mod model_sections;
+mod model_sides;
+mod model_terms;
+#[cfg(test)]
+mod model_tests;
+mod reading;
+
+pub use reading::read_model;

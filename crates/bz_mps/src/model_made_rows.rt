@@ -1,0 +1,99 @@
+//! The rows of a model, from its text.
+ghost use Rattle.std.specs.Prelude.{◌≡◌, ◌++◌, ◌∷◌, [], IfOk};
+ghost use Rattle.std.specs.List.{AllByRecursion, AllZip};
+ghost use Rattle.bz_algebra.specs.Numbers.{IsNarrow};
+ghost use Rattle.bz_algebra.specs.Sums.{AllBelow};
+ghost use Rattle.bz_mps.specs.ModelText.{IsRowOf, constraints, is_kind as kind_test, right_side};
+
+use crate::model_bounds::{copy_name, last_at};
+use crate::model_columns::Entry;
+use crate::model_terms::terms_of;
+use bz_lines::{Fields, FormStop};
+use bz_model::Row;
+use std::alloc::{AllocError, Global};
+
+/// Whether a line of ROWS has the kind.
+pub(crate) fn is_kind(line: &Fields, kind: &[u8]) -> bool
+    ensures { result ≡ kind_test kind.now line.now }
+{
+    line.at(0) == kind
+}
+
+/// The right side of a row.
+pub(crate) fn side_at(place: usize, sides: &[(usize, i128)]) -> Result<i128, FormStop>
+    ensures side { IfOk result (λ side. side ≡ right_side place sides.now) }
+    ensures narrow { IfOk result IsNarrow }
+{
+    match last_at(place, sides) {
+        Some(side) => if side == i128::MIN {
+            Err(FormStop::Outside)
+        } else {
+            Ok(side)
+        },
+        None => Ok(0),
+    }
+}
+
+/// The row at a place, whose columns are below the count.
+fn row_at(
+    alloc: Global,
+    place: usize,
+    line: &Fields,
+    count: usize,
+    entries: &[Entry],
+    sides: &[(usize, i128)],
+) -> Result<Row, FormStop>
+    ensures row { IfOk result (IsRowOf entries.now sides.now (place, line.now)) }
+    ensures below { IfOk result (λ row. AllBelow count row.terms) }
+{
+    let terms = terms_of(alloc, place, count, entries)?;
+    let side = side_at(place, sides)?;
+    let name = copy_name(alloc, line.at(1))?;
+    let lower = if is_kind(line, b"L") {
+        None
+    } else {
+        Some(side)
+    };
+    let upper = if is_kind(line, b"G") {
+        None
+    } else {
+        Some(side)
+    };
+    Ok(Row {
+        name,
+        terms,
+        lower,
+        upper,
+    })
+}
+
+/// Adds a row at the end.
+fn push_row(rows: &mut Vec<Row>, row: Row) -> Result<(), AllocError>
+    ensures { IfOk result (λ _. rows.new.items ≡ rows.old.items ++ row ∷ []) }
+{
+    rows.push(row)?;
+    Ok(())
+}
+
+/// The rows but those of kind N.
+pub(crate) fn rows_of(
+    alloc: Global,
+    lines: &[Fields],
+    count: usize,
+    entries: &[Entry],
+    sides: &[(usize, i128)],
+) -> Result<Vec<Row>, FormStop>
+    ensures rows { IfOk result (λ rows. AllZip (IsRowOf entries.now sides.now) (constraints lines.now) rows.items) }
+    ensures below { IfOk result (λ rows. AllByRecursion (λ row. AllBelow count row.terms) rows.items) }
+{
+    let mut rows = Vec::new(alloc);
+    for place in 0..lines.len() {
+        let line = &lines[place];
+        if is_kind(line, b"N") {
+            continue;
+        }
+        let row = row_at(alloc, place, line, count, entries, sides)?;
+        push_row(&mut rows, row)?;
+    }
+    Ok(rows)
+}

@@ -1,0 +1,3 @@
+pub mod PartReading
+pub mod PartText
+pub mod StrictTests

@@ -1,0 +1,11 @@
+//! Partitions from their texts, and whether a model may be solved by one.
+#![tactic(auto)]
+
+mod part_lines;
+mod reading;
+mod strict;
+#[cfg(test)]
+mod tests;
+
+pub use reading::read_part;
+pub use strict::is_strict;

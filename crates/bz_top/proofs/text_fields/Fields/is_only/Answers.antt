@@ -1,6 +1,0 @@
-use Rattle.std.proofs.Common.{rules}
-use Rattle.bz_top.proofs.FieldLemmas.{only_field}
-use Rattle.bz_top.proofs.text_fields.Fields.is_only.Goals as goal
-
-pub returns-then-len-eq1 : goal.returns-then-len-eq1
-returns-then-len-eq1 c = λ t. only_field c.args.self.now c.args.word.now (search rules) (search rules)
