@@ -2,4 +2,5 @@ pub mod FieldLists
 pub mod Lines
 pub mod LinesBefore
 pub mod NameLists
+pub mod Reading
 pub mod SmallNumbers
