@@ -20,8 +20,7 @@ use Rattle.bz_check.specs.Leaves.{ShowsLeaf}
 use Rattle.bz_check.specs.Sides.{kept_side_of_cut, kept_sides, sides_of_end}
 use Rattle.bz_check.proofs.CutsPass.{sum_is}
 use Rattle.bz_pass.specs.Boxes.{Box}
-use Rattle.bz_algebra.specs.Numbers.{IsNarrow}
-use Rattle.bz_num.specs.Fold.{IsNarrowSum, fold_of, pairs_at}
+use Rattle.bz_num.specs.Fold.{IsNarrowSum, pairs_at}
 use Rattle.bz_num.proofs.Folds.{narrow-from_fold}
 use Rattle.bz_check.specs.Fits.{FitsEquation, FitsLeaf}
 use Rattle.bz_check.proofs.NarrowSums.{row_gives}

@@ -1,5 +1,4 @@
-use Rattle.std.proofs.Common.{rules, ◌≡◌, ◌*ℤ◌}
-use Rattle.std.specs.Ordering.{int_cmp}
+use Rattle.std.proofs.Common.{rules, ◌*ℤ◌}
 use Rattle.bz_num.proofs.Comparing.{at_most_tells}
 use Rattle.bz_check.proofs.leaf.is_at_most.Goals as goal
 
