@@ -19,7 +19,13 @@ use Rattle.bz_check.specs.Integers.{AreRootEnds}
 use Rattle.bz_check.specs.Leaves.{ShowsLeaf}
 use Rattle.bz_check.specs.Sides.{kept_side_of_cut, kept_sides, sides_of_end}
 use Rattle.bz_check.proofs.CutsPass.{sum_is}
-use Rattle.bz_check.proofs.RootEnds.{box_of, box_sides}
+use Rattle.bz_pass.specs.Boxes.{Box}
+use Rattle.bz_num.specs.Fold.{IsNarrowSum, pairs_at}
+use Rattle.bz_num.proofs.Folds.{narrow-from_fold}
+use Rattle.bz_check.specs.Fits.{FitsEquation, FitsLeaf}
+use Rattle.bz_check.proofs.NarrowSums.{row_gives}
+use Rattle.bz_check.proofs.CutsPass.{narrow_turned, equation_fits}
+use Rattle.bz_check.proofs.RootEnds.{StandAt, box_of, sides_stand, stand}
 
 -- the same numbers, but for zeros that are left out
 record IsSameSide (i j : Ineq) : Type 0 where
@@ -93,17 +99,17 @@ dot_same : (es : List (ℕ × ℤ)) (f g : ℕ → ℤ) → ((n : ℕ) → f n �
 dot_same [] f g h = refl
 dot_same (e ∷ es) f g h = λ i. (e.1 *ℤ h e.0 i) +ℤ dot_same es f g h i
 
--- the sides that the check keeps are those of the leaf
-same_sides : (m : Model) (part : List ℕ) (ends : List Ends) (cuts : List Cut) → AreRootEnds part (integers_of m) ends → AreSameSides (kept_sides (inequalities_of m part 0) ends cuts) (sides_of m part (box_of ends) cuts)
-same_sides m part ends cuts h =
-    let box : flat_map sides_of_end ends ≡ flat_map (sides_of_box part (box_of ends)) (enumerate_from 0 (integers_of m)) = box_sides m part ends h in
-    rw box (same_then _ _ (map kept_side_of_cut cuts) (map side_of_cut cuts) (all_same (map side_of_master (inequalities_of m part 0) ++ flat_map (sides_of_box part (box_of ends)) (enumerate_from 0 (integers_of m)))) (same_cuts cuts))
+-- the sides that the check keeps are those of the leaf over any box with these ends
+same_sides : (m : Model) (part : List ℕ) (box : Box) (ends : List Ends) (cuts : List Cut) → AreRootEnds part (integers_of m) ends → StandAt box.lower box.upper 0 ends → AreSameSides (kept_sides (inequalities_of m part 0) ends cuts) (sides_of m part box cuts)
+same_sides m part box ends cuts h at =
+    let of_box : flat_map sides_of_end ends ≡ flat_map (sides_of_box part box) (enumerate_from 0 (integers_of m)) = sides_stand part box 0 (integers_of m) ends h at in
+    rw of_box (same_then _ _ (map kept_side_of_cut cuts) (map side_of_cut cuts) (all_same (map side_of_master (inequalities_of m part 0) ++ flat_map (sides_of_box part box) (enumerate_from 0 (integers_of m)))) (same_cuts cuts))
 
 pub leaf_holds : (m : Model) (part : List ℕ) (ends : List Ends) (cuts : List Cut) (value den : ℤ) (leaf : Leaf) → AreRootEnds part (integers_of m) ends → ShowsLeaf m part ends cuts value den leaf → LeafHolds m part (box_of ends) cuts leaf
 leaf_holds m part ends cuts value den leaf h s =
     let kept : List Ineq = kept_sides (inequalities_of m part 0) ends cuts in
     let sides : List Ineq = sides_of m part (box_of ends) cuts in
-    let same : AreSameSides kept sides = same_sides m part ends cuts h in
+    let same : AreSameSides kept sides = same_sides m part (box_of ends) ends cuts h (stand ends) in
     let add = s.sums.sums in
     record {
       lambda = let P : ℕ → Type 0 = λ n. AreMultipliers n leaf.lambda in subst P (same_length kept sides same) add.lambda;
@@ -117,5 +123,56 @@ leaf_holds m part ends cuts value den leaf h s =
 pub leaf_passes : (m : Model) (part : List ℕ) (ends : List Ends) (cuts : List Cut) (value den : ℤ) (leaf : Leaf) → AreRootEnds part (integers_of m) ends → ShowsLeaf m part ends cuts value den leaf → LeafPasses m part (box_of ends) cuts value den leaf
 leaf_passes m part ends cuts value den leaf h s = record {
   holds = leaf_holds m part ends cuts value den leaf h s;
-  bound = λ more. (s.bounds.ordered more).at_most;
+  bound = s.bounds.at_most;
 }
+
+pairs_same : (es : List (ℕ × ℤ)) (f g : ℕ → ℤ) → ((n : ℕ) → f n ≡ g n) → pairs_at es f ≡ pairs_at es g
+pairs_same [] f g h = refl
+pairs_same (e ∷ es) f g h = λ i. (e.1, h e.0 i) ∷ pairs_same es f g h i
+
+-- a sum over the sides that the check keeps is narrow exactly where the same sum over the leaf's sides is
+narrow_same : (es : List (ℕ × ℤ)) (f g : ℕ → ℤ) → ((n : ℕ) → f n ≡ g n) → IsNarrowSum (pairs_at es f) → IsNarrowSum (pairs_at es g)
+narrow_same es f g h n = subst IsNarrowSum (pairs_same es f g h) n
+
+-- what the check of a leaf tests makes it fit
+pub leaf_fits : (m : Model) (part : List ℕ) (ends : List Ends) (cuts : List Cut) (value den : ℤ) (leaf : Leaf) → AreRootEnds part (integers_of m) ends → ShowsLeaf m part ends cuts value den leaf → FitsLeaf m part (box_of ends) cuts leaf
+leaf_fits m part ends cuts value den leaf h s =
+    let kept : List Ineq = kept_sides (inequalities_of m part 0) ends cuts in
+    let sides : List Ineq = sides_of m part (box_of ends) cuts in
+    let same : AreSameSides kept sides = same_sides m part (box_of ends) ends cuts h (stand ends) in
+    let add = s.sums.sums in
+    record {
+      master = λ i l.
+          let of_kept : FitsEquation leaf.lambda (λ n. coef (master_at kept n) i) (leaf.delta *ℤ coef (terms_in part 0 (inner_cost m)) i) =
+          equation_fits leaf.lambda (λ n. coef (master_at kept n) i) _ _ (add.master i l) (narrow_turned leaf.delta (coef (terms_in part 0 (inner_cost m)) i)) in
+          record { sum = narrow_same leaf.lambda _ _ (λ n. same_master kept sides n i same) of_kept.sum; product = of_kept.product };
+      etas = λ b l. narrow_same leaf.lambda _ _ (λ n. same_own kept sides n b same) (narrow-from_fold (pairs_at leaf.lambda (λ n. coef (own_at kept n) b)) _ (add.etas b l));
+      rhs = narrow_same leaf.lambda _ _ (λ n. same_rhs kept sides n same) (narrow-from_fold (pairs_at leaf.lambda (rhs_at kept)) _ add.rhs);
+    }
+
+-- a leaf that passes and fits over a box with these ends is one that the check finds
+pub leaf_shown : (m : Model) (part : List ℕ) (box root : Box) (ends : List Ends) (cuts : List Cut) (value den : ℤ) (leaf : Leaf) → AreRootEnds part (integers_of m) ends → StandAt box.lower box.upper 0 ends → StandAt root.lower root.upper 0 ends → LeafPasses m part box cuts value den leaf → FitsLeaf m part root cuts leaf → ShowsLeaf m part ends cuts value den leaf
+leaf_shown m part box root ends cuts value den leaf h at at_root p f =
+    let kept : List Ineq = kept_sides (inequalities_of m part 0) ends cuts in
+    let sides : List Ineq = sides_of m part box cuts in
+    let others : List Ineq = sides_of m part root cuts in
+    let same : AreSameSides kept sides = same_sides m part box ends cuts h at in
+    let same_too : AreSameSides kept others = same_sides m part root ends cuts h at_root in
+    record {
+      signs = record { delta = p.holds.delta; empty = p.holds.empty };
+      sums = record {
+        sums = record {
+          lambda = let P : ℕ → Type 0 = λ n. AreMultipliers n leaf.lambda in subst P (sym (same_length kept sides same)) p.holds.lambda;
+          master = λ i l. row_gives leaf.lambda (λ n. coef (master_at kept n) i) _
+              (narrow_same leaf.lambda _ _ (λ n. sym (same_master kept others n i same_too)) (f.master i l).sum)
+              (dot_same leaf.lambda _ _ (λ n. same_master kept sides n i same) ∙ p.holds.master i l ∙ sym (neg_mul leaf.delta (coef (terms_in part 0 (inner_cost m)) i)));
+          etas = λ b l. row_gives leaf.lambda (λ n. coef (own_at kept n) b) _
+              (narrow_same leaf.lambda _ _ (λ n. sym (same_own kept others n b same_too)) (f.etas b l))
+              (dot_same leaf.lambda _ _ (λ n. same_own kept sides n b same) ∙ p.holds.etas b l);
+          rhs = row_gives leaf.lambda (rhs_at kept) _
+              (narrow_same leaf.lambda _ _ (λ n. sym (same_rhs kept others n same_too)) f.rhs)
+              (dot_same leaf.lambda _ _ (λ n. same_rhs kept sides n same) ∙ p.holds.rhs);
+        };
+      };
+      bounds = record { at_most = p.bound };
+    }

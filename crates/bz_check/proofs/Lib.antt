@@ -1,6 +1,7 @@
 pub mod BelowPosition
 pub mod Costs
 pub mod CutsPass
+pub mod FitsChecked
 pub mod LeavesPass
 pub mod Lowest
 pub mod NarrowSums

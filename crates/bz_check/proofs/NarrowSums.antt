@@ -1,10 +1,12 @@
 -- The sum that a fold gives is narrow.
-use Rattle.std.proofs.Common.{◌≡◌, subst, ℕ, ◌+◌, false, List, [], ◌∷◌, arith, ℤ, pos, ◌+ℤ◌, ◌*ℤ◌, Result, Ok, IfOk, inl, inr}
+use Rattle.std.proofs.Common.{◌≡◌, ◌↔◌, refl, sym, ◌∙◌, ap, subst, ℕ, ◌+◌, false, List, [], ◌∷◌, arith, ℤ, pos, ◌+ℤ◌, ◌*ℤ◌, Result, Ok, Err, IfOk, IsOk, inl, inr}
 use Rattle.std.proofs.lemmas.Bool.{cases_Bool}
 use Rattle.std.proofs.lemmas.Bool.Decides.{nat_tests}
 use Rattle.bz_algebra.specs.Numbers.{IsNarrow}
 use Rattle.bz_num.specs.declared.WideSum.{WideSum}
-use Rattle.bz_num.specs.Fold.{fold_from, fold_of, goes_wide}
+use Rattle.bz_algebra.specs.Sums.{dot}
+use Rattle.bz_num.specs.Fold.{IsNarrowSum, fold_from, fold_of, goes_wide, pairs_at, products}
+use Rattle.bz_num.proofs.Folds.{fold-from_narrow, narrow-from_fold, products-pairs_at}
 
 narrow_next : (sum : ℤ) (p : ℤ × ℤ) → goes_wide sum p ≡ false → IsNarrow (sum +ℤ (p.0 *ℤ p.1))
 narrow_next sum p h = grind (arith, nat_tests)
@@ -25,3 +27,22 @@ narrow_from ps r h = rw h (fold_of_narrow ps)
 
 pub narrow_for : (ps : List (ℤ × ℤ)) (r : Result ℤ WideSum) → r ≡ fold_of ps → (x : ℤ) → r ≡ Ok x → IsNarrow x
 narrow_for ps r h x e = let P : Result ℤ WideSum → Type 0 = λ s. IfOk s IsNarrow in subst P e (narrow_from ps r h)
+
+pub result_narrow : (ps : List (ℤ × ℤ)) (z : ℤ) → fold_of ps ≡ Ok z → IsNarrow z
+result_narrow ps z h = narrow_for ps (fold_of ps) refl z h
+
+-- a fold gives the sum where no pair is wide
+pub fold_gives : (ps : List (ℤ × ℤ)) (z : ℤ) → IsNarrowSum ps → products ps ≡ z → fold_of ps ≡ Ok z
+fold_gives ps z n e = fold-from_narrow ps n ∙ ap Ok e
+
+-- the same of a row
+pub row_gives : (es : List (ℕ × ℤ)) (f : ℕ → ℤ) (z : ℤ) → IsNarrowSum (pairs_at es f) → dot es f ≡ z → fold_of (pairs_at es f) ≡ Ok z
+row_gives es f z n e = fold_gives (pairs_at es f) z n (products-pairs_at es f ∙ e)
+
+ok_from : (ps : List (ℤ × ℤ)) (r : Result ℤ WideSum) → fold_of ps ≡ r → IsOk r → IsNarrowSum ps
+ok_from ps (Ok z) e h = narrow-from_fold ps z e
+ok_from ps (Err w) e h = absurd cc
+
+-- the fold is a number exactly where no pair is wide
+pub ok_is_narrow : (ps : List (ℤ × ℤ)) (r : Result ℤ WideSum) → r ≡ fold_of ps → IsOk r ↔ IsNarrowSum ps
+ok_is_narrow ps r same = (ok_from ps r (sym same), λ n. rw (same, fold-from_narrow ps n) refl)

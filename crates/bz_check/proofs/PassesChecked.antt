@@ -66,11 +66,13 @@ products-ones : (es : List ℤ) → products (map times_one es) ≡ total es
 products-ones [] = refl
 products-ones (e ∷ es) = rw (products-ones es, one_mul e) refl
 
-value_is : (cost : List (ℕ × ℤ)) (master : Master) (value : ℤ) → fold_of (value_pairs cost master) ≡ Ok value → value ≡ dot cost (coordinate master.x) +ℤ total master.eta
-value_is cost master value h =
-    sum-from_fold (value_pairs cost master) value h
-    ∙ products-append (row_pairs cost master.x) (map times_one master.eta)
+pub value_products : (cost : List (ℕ × ℤ)) (master : Master) → products (value_pairs cost master) ≡ dot cost (coordinate master.x) +ℤ total master.eta
+value_products cost master =
+    products-append (row_pairs cost master.x) (map times_one master.eta)
     ∙ (λ k. products-pairs_at cost (coordinate master.x) k +ℤ products-ones master.eta k)
+
+value_is : (cost : List (ℕ × ℤ)) (master : Master) (value : ℤ) → fold_of (value_pairs cost master) ≡ Ok value → value ≡ dot cost (coordinate master.x) +ℤ total master.eta
+value_is cost master value h = sum-from_fold (value_pairs cost master) value h ∙ value_products cost master
 
 pub signed : (m : Model) (part : List ℕ) (cuts : List Cut) → AllByRecursion (ShowsCut m part) cuts → AllByRecursion IsSigned cuts
 signed m part cuts h = all_weaker (ShowsCut m part) IsSigned cuts (λ cut s. record { block = s.form.some; p0 = s.form.p0 }) h

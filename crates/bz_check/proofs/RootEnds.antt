@@ -1,9 +1,12 @@
 -- The integer columns of a model by their places in the master, and the box that their ends make.
-use Rattle.std.proofs.Common.{◌≡◌, refl, sym, ◌∙◌, ap, subst, ℕ, zero, suc, ◌+◌, ◌<◌, ◌≤◌, true, false, cond, List, [], ◌∷◌, ◌++◌, length, map, drop, get_or, arith, ℤ, inl, inr, nat_eq, Option, Some, None, IfSome, zero-add, append-nil, append_assoc}
+use Rattle.std.proofs.Common.{◌≡◌, refl, sym, ◌∙◌, ap, subst, ℕ, zero, suc, ◌+◌, ◌<◌, ◌≤◌, true, false, cond, List, [], ◌∷◌, ◌++◌, length, map, drop, get_or, arith, ℤ, pos, ◌+ℤ◌, ◌-ℤ◌, ◌*ℤ◌, ◌<ℤ◌, ◌≤ℤ◌, inl, inr, nat_eq, Option, Some, None, IfSome, IsSome, zero-add, append-nil, append_assoc}
 use Rattle.std.proofs.lemmas.Option.{slice_get-get_or}
 use Rattle.std.specs.Bool.{OnTrue}
 use Rattle.std.specs.List.{AllByRecursion, enumerate_from, flat_map, filter, slice_get}
 use Rattle.std.proofs.lemmas.Bool.{cases_Bool, cases_eq, ne_eqb, eq-eqb}
+use Rattle.std.proofs.lemmas.Int.{ints}
+use Rattle.bz_algebra.proofs.Ring.{cancel_lt_right, le_antisym}
+use Rattle.bz_num.specs.declared.Frac.{Frac}
 use Rattle.bz_model.specs.declared.Column.{Column}
 use Rattle.bz_model.specs.declared.Ineq.{Ineq}
 use Rattle.bz_model.specs.declared.Master.{Master}
@@ -119,9 +122,9 @@ pub box_of : List Ends → Box
 box_of ends = record { lower = map (λ e. e.lower) ends; upper = map (λ e. e.upper) ends }
 
 -- lists of ends stand at places from k on
-record StandAt (lower upper : List ℤ) (k : ℕ) (ends : List Ends) : Type 0 where
-  lows : (i : ℕ) → coordinate lower (k + i) ≡ coordinate (map (λ (e : Ends). e.lower) ends) i
-  ups : (i : ℕ) → coordinate upper (k + i) ≡ coordinate (map (λ (e : Ends). e.upper) ends) i
+pub record StandAt (lower upper : List ℤ) (k : ℕ) (ends : List Ends) : Type 0 where
+  pub lows : (i : ℕ) → coordinate lower (k + i) ≡ coordinate (map (λ (e : Ends). e.lower) ends) i
+  pub ups : (i : ℕ) → coordinate upper (k + i) ≡ coordinate (map (λ (e : Ends). e.upper) ends) i
 
 later : (lower upper : List ℤ) (k : ℕ) (end : Ends) (ends : List Ends) → StandAt lower upper k (end ∷ ends) → StandAt lower upper (k + 1) ends
 later lower upper k end ends h = record {
@@ -151,7 +154,7 @@ length-mapped : {X Y : Type 0} (f : X → Y) (xs : List X) → length (map f xs)
 length-mapped f [] = refl
 length-mapped f (x ∷ xs) = ap suc (length-mapped f xs)
 
-stand : (ends : List Ends) → StandAt (box_of ends).lower (box_of ends).upper 0 ends
+pub stand : (ends : List Ends) → StandAt (box_of ends).lower (box_of ends).upper 0 ends
 unfolding box_of
 stand ends = record { lows = λ i. ap (coordinate (map (λ (e : Ends). e.lower) ends)) (zero-add i); ups = λ i. ap (coordinate (map (λ (e : Ends). e.upper) ends)) (zero-add i) }
 
@@ -181,7 +184,7 @@ hold part box master k (e ∷ es) (end ∷ ends) h at s =
 pub integers_pass : (m : Model) (part : List ℕ) (master : Master) (ends : List Ends) → AreRootEnds part (integers_of m) ends → AllByRecursion (ShowsIntegerAt master.x master.den) ends → AllByRecursion (IntegerHolds part (box_of ends) master) (enumerate_from 0 (integers_of m))
 integers_pass m part master ends h s = hold part (box_of ends) master 0 (integers_of m) ends h (stand ends) s
 
-sides_stand : (part : List ℕ) (box : Box) (k : ℕ) (es : List (ℕ × Column)) (ends : List Ends) → AreRootEnds part es ends → StandAt box.lower box.upper k ends → flat_map sides_of_end ends ≡ flat_map (sides_of_box part box) (enumerate_from k es)
+pub sides_stand : (part : List ℕ) (box : Box) (k : ℕ) (es : List (ℕ × Column)) (ends : List Ends) → AreRootEnds part es ends → StandAt box.lower box.upper k ends → flat_map sides_of_end ends ≡ flat_map (sides_of_box part box) (enumerate_from k es)
 sides_stand part box k [] [] h at = refl
 sides_stand part box k [] (end ∷ ends) h at = absurd h
 sides_stand part box k (e ∷ es) [] h at = absurd h
@@ -189,8 +192,83 @@ sides_stand part box k (e ∷ es) (end ∷ ends) h at =
     rw (h.0.position, ← up_is box.lower box.upper k end ends at, ← low_is box.lower box.upper k end ends at)
     (ap (λ (is : List Ineq). (sides_of_box part box (k, e)) ++ is) (sides_stand part box (k + 1) es ends h.1 (later box.lower box.upper k end ends at)))
 
-pub box_sides : (m : Model) (part : List ℕ) (ends : List Ends) → AreRootEnds part (integers_of m) ends → flat_map sides_of_end ends ≡ flat_map (sides_of_box part (box_of ends)) (enumerate_from 0 (integers_of m))
-box_sides m part ends h = sides_stand part (box_of ends) 0 (integers_of m) ends h (stand ends)
+-- ---- the root's box has no other ends
+ceiling_least : (f : Frac) (a b : ℤ) → IsCeiling f a → IsCeiling f b → a ≤ℤ b
+ceiling_least f a b h k =
+    let some : pos 0 <ℤ f.den = f.positive in
+    let low : ((a -ℤ pos 1) *ℤ f.den) <ℤ f.num = h.least in
+    let high : f.num ≤ℤ (b *ℤ f.den) = k.at_least in
+    let less : (a -ℤ pos 1) <ℤ b = cancel_lt_right (a -ℤ pos 1) b f.den (omega (arith, ints)) (omega (arith, ints)) in
+    omega (arith, ints)
+
+floor_greatest : (f : Frac) (a b : ℤ) → IsFloor f a → IsFloor f b → a ≤ℤ b
+floor_greatest f a b h k =
+    let some : pos 0 <ℤ f.den = f.positive in
+    let low : (a *ℤ f.den) ≤ℤ f.num = h.at_most in
+    let high : f.num <ℤ ((b +ℤ pos 1) *ℤ f.den) = k.greatest in
+    let less : a <ℤ (b +ℤ pos 1) = cancel_lt_right a (b +ℤ pos 1) f.den (omega (arith, ints)) (omega (arith, ints)) in
+    omega (arith, ints)
+
+same_lower : (bound : Option Frac) (a b : ℤ) → IsSome bound → IfSome bound (λ f. IsCeiling f a) → IfSome bound (λ f. IsCeiling f b) → a ≡ b
+same_lower (Some f) a b s h k = le_antisym a b (ceiling_least f a b h k) (ceiling_least f b a k h)
+same_lower None a b s h k = absurd cc
+
+same_upper : (bound : Option Frac) (a b : ℤ) → IsSome bound → IfSome bound (λ f. IsFloor f a) → IfSome bound (λ f. IsFloor f b) → a ≡ b
+same_upper (Some f) a b s h k = le_antisym a b (floor_greatest f a b h k) (floor_greatest f b a k h)
+same_upper None a b s h k = absurd cc
+
+-- the column has two bounds
+abbrev IsBounded : ℕ × Column → Type 0
+IsBounded e = IsSome e.1.lower × IsSome e.1.upper
+
+bounded : (part : List ℕ) (n : ℕ) (cs : List Column) → AllByRecursion (λ e. IsStrictColumn (part_of part e.0) e.1) (enumerate_from n cs) → AllByRecursion IsBounded (filter (λ (e : ℕ × Column). e.1.integer) (enumerate_from n cs))
+bounded part n [] h = tt
+bounded part n (c ∷ cs) h =
+    let rest = bounded part (n + 1) cs h.1 in
+    let in_part : OnTrue c.integer (part_of part n ≡ 0) = h.0.integer in
+    elim (cases_Bool c.integer) [
+      | inl t ↦ rw t (h.0.bounded (rw t at in_part), rest)
+      | inr t ↦ rw t rest
+    ]
+
+past : (xs : List ℤ) (j : ℕ) → length xs ≤ j → coordinate xs j ≡ pos 0
+past [] j l = refl
+past (x ∷ xs) zero l = absurd (omega arith)
+past (x ∷ xs) (suc j) l = past xs j (omega arith)
+
+first_and_later : (xs : List ℤ) (k : ℕ) (y : ℤ) (ys : List ℤ) → coordinate xs k ≡ y → ((i : ℕ) → coordinate xs (k + 1 + i) ≡ coordinate ys i) → (i : ℕ) → coordinate xs (k + i) ≡ coordinate (y ∷ ys) i
+first_and_later xs k y ys h t zero = ap (coordinate xs) (let z : k + 0 ≡ k = omega arith in z) ∙ h
+first_and_later xs k y ys h t (suc i) = ap (coordinate xs) (let z : k + suc i ≡ k + 1 + i = omega arith in z) ∙ t i
+
+stand_from : (part : List ℕ) (lower upper : List ℤ) (k : ℕ) (es : List (ℕ × Column)) (ends : List Ends) → length lower ≡ k + length es → length upper ≡ k + length es → AllByRecursion IsBounded es → AreRootEnds part es ends → AllByRecursion (λ (e : ℕ × (ℕ × Column)). IfSome e.1.1.lower (λ f. IsCeiling f (coordinate lower e.0)) × IfSome e.1.1.upper (λ f. IsFloor f (coordinate upper e.0))) (enumerate_from k es) → StandAt lower upper k ends
+stand_from part lower upper k [] [] l u b h r = record { lows = λ i. past lower (k + i) (omega arith); ups = λ i. past upper (k + i) (omega arith) }
+stand_from part lower upper k [] (end ∷ ends) l u b h r = absurd h
+stand_from part lower upper k (e ∷ es) [] l u b h r = absurd h
+stand_from part lower upper k (e ∷ es) (end ∷ ends) l u b h r =
+    let rest : StandAt lower upper (k + 1) ends = stand_from part lower upper (k + 1) es ends (omega arith) (omega arith) b.1 h.1 r.1 in
+    record {
+      lows = first_and_later lower k end.lower (map (λ (x : Ends). x.lower) ends) (same_lower e.1.lower (coordinate lower k) end.lower b.0.0 r.0.0 h.0.lower) rest.lows;
+      ups = first_and_later upper k end.upper (map (λ (x : Ends). x.upper) ends) (same_upper e.1.upper (coordinate upper k) end.upper b.0.1 r.0.1 h.0.upper) rest.ups;
+    }
+
+-- a box of the whole model has the ends that the check keeps
+pub root_stands : (d : Decomposition) (root : Box) (ends : List Ends) → IsSplit d → IsRootBox d.model root → AreRootEnds d.part (integers_of d.model) ends → StandAt root.lower root.upper 0 ends
+root_stands d root ends s r h = stand_from d.part root.lower root.upper 0 (integers_of d.model) ends (omega (arith, r.lowers)) (omega (arith, r.uppers)) (bounded d.part 0 d.model.columns s.strict.columns) h r.rounded
+
+-- what holds in such a box is what the check tests
+pub integers_shown : (part : List ℕ) (box : Box) (master : Master) (k : ℕ) (es : List (ℕ × Column)) (ends : List Ends) → AreRootEnds part es ends → StandAt box.lower box.upper k ends → AllByRecursion (IntegerHolds part box master) (enumerate_from k es) → AllByRecursion (ShowsIntegerAt master.x master.den) ends
+integers_shown part box master k [] [] h at s = tt
+integers_shown part box master k [] (end ∷ ends) h at s = absurd h
+integers_shown part box master k (e ∷ es) [] h at s = absurd h
+integers_shown part box master k (e ∷ es) (end ∷ ends) h at s =
+    let place : end.position ≡ position_of part e.0 = h.0.position in
+    let P : ℕ → Type 0 = λ i. ShowsInteger (coordinate master.x i) master.den end in
+    let shows : ShowsInteger (coordinate master.x (position_of part e.0)) master.den end = record {
+      whole = s.0.whole;
+      at_least = rw (← low_is box.lower box.upper k end ends at) s.0.at_least;
+      at_most = rw (← up_is box.lower box.upper k end ends at) s.0.at_most;
+    } in
+    (subst P (sym place) shows, integers_shown part box master (k + 1) es ends h.1 (later box.lower box.upper k end ends at) s.1)
 
 -- a place of an end is one of the master's
 pub ends_within : (d : Decomposition) (es : List (ℕ × Column)) (ends : List Ends) → AreRootEnds d.part es ends → AllByRecursion (λ e. (e.0 < length d.part) × (part_of d.part e.0 ≡ 0)) es → AllByRecursion (λ (end : Ends). end.position < width_of d.part 0) ends

@@ -1,7 +1,6 @@
 -- What the check of a leaf tests.
 use Rattle.std.specs.Prelude.{ℕ, ℤ, pos, ◌≡◌, ◌*ℤ◌, ◌<ℤ◌, ◌≤ℤ◌, length, List, Ok}
 use Rattle.std.proofs.Math.IntN.{neg_ℤ}
-use Rattle.bz_algebra.specs.Numbers.{IsNarrow}
 use Rattle.bz_num.specs.Fold.{fold_of}
 use Rattle.bz_model.specs.declared.Ineq.{Ineq}
 use Rattle.bz_model.specs.declared.Model.{Model}
@@ -19,15 +18,9 @@ pub record LeafHasSigns (leaf : Leaf) : Type 0 where
   pub delta : pos 0 ≤ℤ leaf.delta
   pub empty : leaf.delta ≡ pos 0 → pos 0 <ℤ leaf.bound
 
--- neither product is wide, and the first is at most the second
-pub record AreOrdered (a b c d : ℤ) : Type 0 where
-  pub first : IsNarrow (a *ℤ b)
-  pub second : IsNarrow (c *ℤ d)
-  pub at_most : (a *ℤ b) ≤ℤ (c *ℤ d)
-
--- the leaf is empty, or its bound is no less than value / den, by products that are not wide
+-- the leaf is empty, or its bound over delta is no less than value / den
 pub record LeafBounds (value den : ℤ) (leaf : Leaf) : Type 0 where
-  pub ordered : pos 0 <ℤ leaf.delta → AreOrdered value leaf.delta leaf.bound den
+  pub at_most : pos 0 <ℤ leaf.delta → (value *ℤ leaf.delta) ≤ℤ (leaf.bound *ℤ den)
 
 -- the sides, each times its multiplier, add up to the leaf, and no sum or product is wide
 pub record LeafAddsUp (sides : List Ineq) (leaf : Leaf) (width blocks : ℕ) (cost : List (ℕ × ℤ)) : Type 0 where

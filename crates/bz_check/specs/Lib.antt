@@ -1,5 +1,6 @@
 pub mod Checks
 pub mod Cuts
+pub mod Fits
 pub mod Integers
 pub mod Leaves
 pub mod Passing

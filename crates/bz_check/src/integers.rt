@@ -4,6 +4,7 @@ ghost use Rattle.std.specs.Int.RustNames.{unsigned_abs};
 ghost use Rattle.std.specs.List.{AllByRecursion};
 ghost use Rattle.bz_algebra.specs.Numbers.{IsNarrow};
 ghost use Rattle.bz_model.specs.Parting.{integers_of};
+ghost use Rattle.bz_model.specs.Splits.{IsSplit};
 ghost use Rattle.bz_pass.specs.Boxes.{IsCeiling, IsFloor};
 ghost use Rattle.bz_check.specs.Integers.{AreRootEnds, ShowsInteger, ShowsIntegerAt};
 
@@ -74,7 +75,8 @@ fn ends_of(position: u32, column: &Column) -> Ends
 
 /// The ends of the box of the whole model, for each integer column in file order. It takes memory for them.
 pub fn root_ends(alloc: Global, split: &Split) -> Result<Vec<Ends>, AllocError>
-    ensures { IfOk result (λ ends. AreRootEnds split.now.part (integers_of split.now.model) ends.items) }
+    ensures ends { IfOk result (λ ends. AreRootEnds split.now.part (integers_of split.now.model) ends.items) }
+    ensures split { IfOk result (λ _. IsSplit split.now) }
 {
     let columns = split.model().columns.as_slice();
     let mut ends = Vec::new(alloc);

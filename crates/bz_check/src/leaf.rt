@@ -1,7 +1,7 @@
 //! Whether a leaf holds over the box of the whole model and bounds the value.
-ghost use Rattle.std.specs.Prelude.{◌≡◌, ◌↔◌, pos, ◌≤ℤ◌, IfOk, IsTrue};
+ghost use Rattle.std.specs.Prelude.{◌≡◌, ◌↔◌, pos, ◌*ℤ◌, ◌<ℤ◌, ◌≤ℤ◌, IfOk, IsTrue};
 ghost use Rattle.std.specs.List.{AllByRecursion};
-ghost use Rattle.bz_check.specs.Leaves.{AreOrdered, LeafAddsUp, LeafBounds, LeafHasSigns, LeafSumsHold, ShowsLeaf};
+ghost use Rattle.bz_check.specs.Leaves.{LeafAddsUp, LeafBounds, LeafHasSigns, LeafSumsHold, ShowsLeaf};
 ghost use Rattle.bz_check.specs.Sides.{IsSigned};
 
 use crate::ends::Ends;
@@ -9,7 +9,7 @@ use crate::lists::{are_multipliers, part_cost, width};
 use crate::sides::leaf_sides;
 use crate::sums::{Terms, is_opposite, rhs_sum, sums_are_all, sums_are_multiples};
 use bz_model::{Ineq, Split};
-use bz_num::{SparseRow, narrow_negation, narrow_product};
+use bz_num::{SparseRow, cmp_quotients, narrow_negation};
 use bz_pass::{Cut, Leaf};
 use std::alloc::{AllocError, Global};
 
@@ -23,31 +23,24 @@ fn has_signs(leaf: &Leaf) -> bool
     0 < leaf.delta
 }
 
-/// Whether the one number is at most the other.
-fn is_at_most(a: i128, b: i128) -> bool
-    ensures { IsTrue result ↔ (a ≤ℤ b) }
+/// Whether value / den is at most bound / delta. No product is formed.
+fn is_at_most(value: i128, den: i128, bound: i128, delta: i128) -> bool
+    requires den { pos 0 <ℤ den }
+    requires delta { pos 0 <ℤ delta }
+    ensures { IsTrue result ↔ ((value *ℤ delta) ≤ℤ (bound *ℤ den)) }
 {
-    a <= b
-}
-
-/// Whether the first product is at most the second, and both are narrow.
-fn are_ordered(a: i128, b: i128, c: i128, d: i128) -> bool
-    ensures { IsTrue result ↔ AreOrdered a b c d }
-{
-    match (narrow_product(a, b), narrow_product(c, d)) {
-        (Some(first), Some(second)) => is_at_most(first, second),
-        _ => false,
-    }
+    cmp_quotients(value, den, bound, delta).is_le()
 }
 
 /// Whether the leaf is empty, or its bound is no less than the value.
 fn bounds_value(leaf: &Leaf, value: i128, den: i128) -> bool
+    requires { pos 0 <ℤ den }
     ensures { IsTrue result ↔ LeafBounds value den leaf.now }
 {
     if leaf.delta <= 0 {
         return true;
     }
-    are_ordered(value, leaf.delta, leaf.bound, den)
+    is_at_most(value, den, leaf.bound, leaf.delta)
 }
 
 /// Whether the sides, each times its multiplier, add up to the leaf.
@@ -103,7 +96,8 @@ pub fn leaf_passes(
     value: i128,
     den: i128,
 ) -> Result<bool, AllocError>
-    requires { AllByRecursion IsSigned cuts.now }
+    requires signed { AllByRecursion IsSigned cuts.now }
+    requires den { pos 0 <ℤ den }
     ensures { IfOk result (λ passes. IsTrue passes ↔ ShowsLeaf split.now.model split.now.part ends.now cuts.now value den leaf.now) }
 {
     if !has_signs(leaf) {

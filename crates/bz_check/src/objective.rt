@@ -1,8 +1,8 @@
 //! The objective that a certificate states.
-ghost use Rattle.std.specs.Prelude.{◌≡◌, ◌↔◌, pos, ◌<ℤ◌, ◌*ℤ◌, IfOk, IfSome, IsSome};
+ghost use Rattle.std.specs.Prelude.{◌≡◌, ◌↔◌, pos, ◌<ℤ◌, ◌*ℤ◌, IfOk, IfSome, IsOk, IsSome};
 ghost use Rattle.bz_algebra.specs.Fractions.{IsSameNumber};
 ghost use Rattle.bz_algebra.specs.Numbers.{IsNarrow};
-ghost use Rattle.bz_num.specs.Fold.{fold_of};
+ghost use Rattle.bz_num.specs.Fold.{IsNarrowSum};
 ghost use Rattle.bz_check.specs.Stated.{IsReduced, FitsStated, sign_of, stated_fraction, stated_pairs};
 ghost use Rattle.bz_pass.specs.Certificates.{stated_objective};
 
@@ -36,7 +36,7 @@ fn lowest(num: i128, den: i128) -> Stated
 
 /// The numerator of the stated objective, or its first wide place.
 fn numerator(model: &Model, certificate: &Certificate) -> Result<i128, WideSum>
-    ensures value { result ≡ fold_of (stated_pairs model.now certificate.now) }
+    ensures fits { IsOk result ↔ IsNarrowSum (stated_pairs model.now certificate.now) }
     ensures sum { IfOk result (λ sum. sum ≡ (stated_objective model.now certificate.now).num) }
     ensures narrow { IfOk result IsNarrow }
 {

@@ -1,8 +1,9 @@
 //! The check of a certificate.
-ghost use Rattle.std.specs.Prelude.{◌≡◌, ◌↔◌, IfOk, IsTrue};
+ghost use Rattle.std.specs.Prelude.{◌≡◌, ◌↔◌, pos, ◌<ℤ◌, IfOk, IsTrue};
 ghost use Rattle.std.specs.List.{AllByRecursion};
 ghost use Rattle.bz_model.specs.Parting.{integers_of};
 ghost use Rattle.bz_pass.specs.Certificates.{HasShape, Passes};
+ghost use Rattle.bz_check.specs.Fits.{FitsCheck};
 ghost use Rattle.bz_check.specs.Integers.{AreRootEnds};
 ghost use Rattle.bz_check.specs.Passing.{ShowsBound, ShowsPassing};
 ghost use Rattle.bz_check.specs.Values.{ShowsPoint};
@@ -48,6 +49,7 @@ fn bound_holds(
     ends: &[Ends],
     certificate: &Certificate,
 ) -> Result<bool, AllocError>
+    requires { pos 0 <ℤ certificate.now.parts.master.den }
     ensures { IfOk result (λ holds. IsTrue holds ↔ ShowsBound split.now.model split.now.part ends.now certificate.now) }
 {
     let cuts = certificate.cuts.as_slice();
@@ -86,10 +88,10 @@ fn passes_in(
     bound_holds(alloc, split, ends, certificate)
 }
 
-/// Whether the certificate passes, by sums that are not wide: a sum or product of the check that is wide refuses it.
+/// Whether the certificate passes and fits: exactly a sum or product of the check that is wide refuses one that passes.
 /// It takes memory for the costs of the parts, the ends of the integer columns and the sides of the leaf.
 pub fn passes(alloc: Global, split: &Split, certificate: &Certificate) -> Result<bool, OutOfMemory>
-    ensures { IfOk result (λ passes. IsTrue passes → Passes split.now.model split.now.part certificate.now) }
+    ensures { IfOk result (λ passes. IsTrue passes ↔ (Passes split.now.model split.now.part certificate.now × FitsCheck split.now.model split.now.part certificate.now)) }
 {
     if !has_shape(split, &certificate.parts) {
         return Ok(false);

@@ -1,6 +1,7 @@
 //! The worked certificate: minimise x + 2 y with x + y >= 1, x an integer from 0 to 1 in the master, y at least 0 in
 //! block 1. Its point is x 1, y 0; its cut is `-2 x - eta <= -2`, and its leaf bounds the cost from below by 1.
 ghost use Rattle.std.specs.Prelude.{◌≡◌, ◌∷◌, [], IfOk, pos};
+ghost use Rattle.bz_algebra.specs.Numbers.{IsNarrow};
 ghost use Rattle.bz_model.specs.Worked.{AreWorkedColumns, AreWorkedRows};
 
 use crate::{passes, stated_of};
@@ -45,7 +46,14 @@ fn rows(alloc: Global) -> Result<Items<Row>, OutOfMemory>
     Ok(Items::from_vec(rows))
 }
 
-fn worked(alloc: Global) -> Result<Model, OutOfMemory>
+/// The objective's constant.
+fn constant(there: bool) -> i128
+    ensures { IsNarrow result }
+{
+    if there { 1 } else { 0 }
+}
+
+fn worked(alloc: Global, has_constant: bool) -> Result<Model, OutOfMemory>
     ensures columns { IfOk result (λ model. AreWorkedColumns model.columns) }
     ensures rows { IfOk result (λ model. AreWorkedRows model.rows) }
     ensures cost { IfOk result (λ model. model.cost ≡ (0, pos 1) ∷ (1, pos 2) ∷ []) }
@@ -55,14 +63,14 @@ fn worked(alloc: Global) -> Result<Model, OutOfMemory>
         rows: rows(alloc)?,
         objective: Name::from_vec(Vec::from_slice(alloc, b"COST")?),
         cost: SparseRow::from_pairs(alloc, &[(0, 1), (1, 2)])?,
-        constant: 0,
+        constant: constant(has_constant),
         scale: 1,
         maximise: false,
     })
 }
 
 fn split(alloc: Global) -> Result<Split, OutOfMemory> {
-    let model = worked(alloc)?;
+    let model = worked(alloc, false)?;
     let part = Items::from_vec(Vec::from_slice(alloc, &[0, 1])?);
     match Split::new(alloc, model, part) {
         Ok(split) => Ok(split),
@@ -70,38 +78,82 @@ fn split(alloc: Global) -> Result<Split, OutOfMemory> {
     }
 }
 
-/// Numbers of the certificate.
+const MOST: i128 = 170141183460469231731687303715884105727; // 2^127 - 1
+
+const HALF: i128 = 85070591730234615865843651857942052864; // 2^126
+
+/// Numbers of the certificate. The point is x `den` over `den`, and y over `den * times`. The cut has the multipliers
+/// `mu` of the row `-x - y <= -1` and of `-y <= 0`. The leaf adds `upper` times `x <= 1` and once the cut.
 #[derive(Clone, Copy)]
 struct Numbers {
+    den: i128,
+    times: i128,
+    y: i128,
+    value: i128,
+    mu: (i128, i128),
+    alpha: i128,
     p0: i128,
     beta: i128,
+    upper: i128,
+    delta: i128,
     bound: i128,
-    value: i128,
-    y: i128,
-    mu_is_negative: bool,
 }
 
 const WORKED: Numbers = Numbers {
+    den: 1,
+    times: 1,
+    y: 0,
+    value: 1,
+    mu: (2, 0),
+    alpha: -2,
     p0: 1,
     beta: -2,
+    upper: 1,
+    delta: 1,
     bound: 1,
-    value: 1,
-    y: 0,
-    mu_is_negative: false,
 };
 
-fn parts(alloc: Global, y: i128) -> Result<Parts, OutOfMemory>
-    ensures { IfOk result (λ parts. parts.master.den ≡ pos 1) }
+/// The worked cut and leaf, 2^126 - 1 times as large: the cut's sums are 2^127 - 2 in size.
+const LARGE: Numbers = Numbers {
+    mu: (MOST - 1, 0),
+    alpha: 1 - MOST,
+    p0: HALF - 1,
+    beta: 1 - MOST,
+    upper: HALF - 1,
+    delta: HALF - 1,
+    bound: HALF - 1,
+    ..WORKED
+};
+
+/// The row of a number at 0 and one at a later place, without zeros; the empty row where that is none.
+fn row(alloc: Global, first: i128, place: u32, second: i128) -> Result<SparseRow, OutOfMemory> {
+    if place == 0 || first == i128::MIN || second == i128::MIN {
+        return SparseRow::from_pairs(alloc, &[]);
+    }
+    if first == 0 && second == 0 {
+        return SparseRow::from_pairs(alloc, &[]);
+    }
+    if first == 0 {
+        return SparseRow::from_pairs(alloc, &[(place, second)]);
+    }
+    if second == 0 {
+        return SparseRow::from_pairs(alloc, &[(0, first)]);
+    }
+    SparseRow::from_pairs(alloc, &[(0, first), (place, second)])
+}
+
+fn parts(alloc: Global, numbers: &Numbers) -> Result<Parts, OutOfMemory>
+    ensures { IfOk result (λ parts. parts.master.den ≡ numbers.now.den) }
 {
     let block = BlockPart {
-        times: 1,
-        y: Items::from_vec(Vec::from_slice(alloc, &[y])?),
+        times: numbers.times,
+        y: Items::from_vec(Vec::from_slice(alloc, &[numbers.y])?),
     };
     let mut blocks = Vec::with_capacity(alloc, 1)?;
     blocks.push(block).map_err(|_| OutOfMemory)?;
     let master = Master {
-        den: 1,
-        x: Items::from_vec(Vec::from_slice(alloc, &[1])?),
+        den: numbers.den,
+        x: Items::from_vec(Vec::from_slice(alloc, &[numbers.den])?),
         eta: Items::from_vec(Vec::from_slice(alloc, &[0])?),
     };
     Ok(Parts {
@@ -111,30 +163,25 @@ fn parts(alloc: Global, y: i128) -> Result<Parts, OutOfMemory>
 }
 
 fn certificate(alloc: Global, numbers: &Numbers) -> Result<Certificate, OutOfMemory>
-    ensures { IfOk result (λ certificate. certificate.parts.master.den ≡ pos 1) }
+    ensures { IfOk result (λ certificate. certificate.parts.master.den ≡ numbers.now.den) }
 {
-    let mu = if numbers.mu_is_negative {
-        SparseRow::from_pairs(alloc, &[(0, -2)])?
-    } else {
-        SparseRow::from_pairs(alloc, &[(0, 2)])?
-    };
     let cut = Cut {
         block: 1,
-        mu,
+        mu: row(alloc, numbers.mu.0, 1, numbers.mu.1)?,
         gcd: 1,
-        alpha: SparseRow::from_pairs(alloc, &[(0, -2)])?,
+        alpha: row(alloc, numbers.alpha, 1, 0)?,
         p0: numbers.p0,
         beta: numbers.beta,
     };
     let mut cuts = Vec::with_capacity(alloc, 1)?;
     cuts.push(cut).map_err(|_| OutOfMemory)?;
     let tree = Leaf {
-        lambda: SparseRow::from_pairs(alloc, &[(0, 1), (2, 1)])?,
-        delta: 1,
+        lambda: row(alloc, numbers.upper, 2, 1)?,
+        delta: numbers.delta,
         bound: numbers.bound,
     };
     Ok(Certificate {
-        parts: parts(alloc, numbers.y)?,
+        parts: parts(alloc, numbers)?,
         value: numbers.value,
         cuts: Items::from_vec(cuts),
         tree,
@@ -157,7 +204,7 @@ fn the_worked_certificate_passes_and_others_do_not(rt: HostRuntime) -> Result<()
         ),
         (
             Numbers {
-                mu_is_negative: true,
+                mu: (-2, 0),
                 ..WORKED
             },
             false,
@@ -172,10 +219,107 @@ fn the_worked_certificate_passes_and_others_do_not(rt: HostRuntime) -> Result<()
 }
 
 #[test]
-fn states_the_objective(rt: HostRuntime) -> Result<(), Fail> {
+fn sums_fit_up_to_the_limit(rt: HostRuntime) -> Result<(), Fail> {
     let split = split(rt.alloc())?;
-    let certificate = certificate(rt.alloc(), &WORKED)?;
-    let stated = stated_of(split.model(), &certificate);
-    assert_eq!(rt; stated.map(|stated| (stated.num, stated.den)), Some((1, 1)));
+    // In each of these the certificate passes, as numbers without limit.
+    let table = [
+        (
+            Numbers {
+                times: MOST,
+                ..WORKED
+            },
+            true,
+            "TIMES times -1, and -1 times DEN TIMES, are -(2^127 - 1)",
+        ),
+        (
+            Numbers {
+                den: 2,
+                value: 2,
+                times: HALF - 1,
+                ..WORKED
+            },
+            true,
+            "DEN TIMES is 2^127 - 2",
+        ),
+        (
+            Numbers {
+                den: 2,
+                value: 2,
+                times: HALF,
+                ..WORKED
+            },
+            false,
+            "DEN TIMES is 2^127",
+        ),
+        (
+            Numbers {
+                den: MOST,
+                value: MOST,
+                ..WORKED
+            },
+            true,
+            "the value is 2^127 - 1",
+        ),
+        (LARGE, true, "the cut's sums are -(2^127 - 2)"),
+        (
+            Numbers {
+                den: MOST,
+                value: MOST,
+                ..LARGE
+            },
+            true,
+            "V delta and bound DEN are wide, but no sum is",
+        ),
+        (
+            Numbers {
+                mu: (MOST - 2, 1),
+                alpha: 2 - MOST,
+                beta: 2 - MOST,
+                upper: HALF - 2,
+                ..LARGE
+            },
+            true,
+            "the sum on y is -(2^127 - 3) - 1",
+        ),
+        (
+            Numbers {
+                mu: (MOST, 1),
+                alpha: -MOST,
+                p0: HALF,
+                beta: -MOST,
+                upper: HALF - 1,
+                delta: HALF,
+                bound: HALF,
+                ..WORKED
+            },
+            false,
+            "the sum on y is -(2^127 - 1) - 1",
+        ),
+    ];
+    for (numbers, wanted, what) in table {
+        let certificate = certificate(rt.alloc(), &numbers)?;
+        assert_eq!(rt; passes(rt.alloc(), &split, &certificate)?, wanted, "{what}");
+    }
+    Ok(())
+}
+
+#[test]
+fn states_the_objective(rt: HostRuntime) -> Result<(), Fail> {
+    let table = [
+        (1, false, Some((1, 1))),
+        (MOST, false, Some((MOST, 1))),
+        (MOST - 1, true, Some((MOST, 1))),
+        (MOST, true, None),
+    ];
+    for (value, has_constant, wanted) in table {
+        let model = worked(rt.alloc(), has_constant)?;
+        let certificate = certificate(rt.alloc(), &Numbers { value, ..WORKED })?;
+        let stated = stated_of(&model, &certificate);
+        assert_eq!(rt;
+            stated.map(|stated| (stated.num, stated.den)),
+            wanted,
+            "{value}"
+        );
+    }
     Ok(())
 }

@@ -1,4 +1,5 @@
 pub mod Coefs
+pub mod Comparing
 pub mod Divisors
 pub mod Folds
 pub mod Reduces

@@ -25,6 +25,10 @@ pub record IsWideAt (ps : List (ℤ × ℤ)) (k : ℕ) : Type 0 where
   pub inside : k < length ps
   pub wide : IsWide (product_at ps k) ⊎ IsWide (partial ps (suc k))
 
+-- no pair's product is wide, and no sum with it
+abbrev pub IsNarrowSum : List (ℤ × ℤ) → Type 0
+IsNarrowSum ps = (k : ℕ) → ¬ IsWideAt ps k
+
 -- the first place where a product or the sum with it is wide
 pub record IsFirstWide (ps : List (ℤ × ℤ)) (k : ℕ) : Type 0 where
   pub here : IsWideAt ps k

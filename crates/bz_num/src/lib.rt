@@ -1,6 +1,7 @@
 //! Whole numbers, fractions, sparse rows and sums of products within 127 bits.
 #![tactic(auto)]
 
+mod compare;
 mod divisor;
 mod fraction;
 mod items;
@@ -10,6 +11,7 @@ mod products;
 mod reduce;
 mod row;
 
+pub use compare::{cmp_frac, cmp_quotients};
 pub use divisor::gcd;
 pub use fraction::Frac;
 pub use items::{Items, Name};

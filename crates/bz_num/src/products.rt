@@ -1,7 +1,7 @@
 //! Sums of products, told exactly where they go wide.
-ghost use Rattle.std.specs.Prelude.{◌≡◌, ◌+◌, ◌<◌, ◌^◌, pos, ◌+ℤ◌, ◌*ℤ◌, ℕ, OnOk, IfOk, IfErr, is_err};
+ghost use Rattle.std.specs.Prelude.{◌≡◌, ◌+◌, ◌<◌, ◌^◌, pos, ◌+ℤ◌, ◌*ℤ◌, OnOk, IfOk, IfErr, is_err};
 ghost use Rattle.bz_algebra.specs.Numbers.{IsNarrow};
-ghost use Rattle.bz_num.specs.Fold.{fold_of, goes_wide, products, IsWideAt, IsFirstWide};
+ghost use Rattle.bz_num.specs.Fold.{fold_of, goes_wide, products, IsFirstWide, IsNarrowSum};
 
 use crate::narrow::{narrow_product, narrow_sum};
 use std::marker::Model;
@@ -71,7 +71,7 @@ impl Folding {
 pub fn fold(pairs: &[(i128, i128)]) -> Result<i128, WideSum>
     ensures value { result ≡ fold_of pairs.now }
     ensures sum { IfOk result (λ sum. sum ≡ products pairs.now) }
-    ensures narrow { IfOk result (λ _. (k : ℕ) → ¬ IsWideAt pairs.now k) }
+    ensures narrow { IfOk result (λ _. IsNarrowSum pairs.now) }
     ensures first { IfErr result (λ wide. IsFirstWide pairs.now wide.at) }
 {
     let mut folding = Folding::new();

@@ -1,5 +1,9 @@
 //! Worked values.
-use crate::{Folding, Frac, Items, Name, OutOfMemory, SparseRow, WideSum, fold, gcd, primitive};
+use crate::{
+    Folding, Frac, Items, Name, OutOfMemory, SparseRow, WideSum, cmp_frac, cmp_quotients, fold,
+    gcd, primitive,
+};
+use std::cmp::Ordering;
 use std::test::Fail;
 
 const HALF: i128 = 85070591730234615865843651857942052864; // 2^126
@@ -89,4 +93,24 @@ fn types_cross_threads() {
     crosses_threads::<WideSum>();
     crosses_threads::<Folding>();
     crosses_threads::<OutOfMemory>();
+}
+
+#[test]
+fn fractions_in_order(rt: HostRuntime) {
+    let table = [
+        (1, 2, 1, 3, Ordering::Greater),
+        (-1, 2, -1, 3, Ordering::Less),
+        (6, 4, 3, 2, Ordering::Equal),
+        (-1, MOST, 0, 1, Ordering::Less),
+        (0, 5, 0, MOST, Ordering::Equal),
+        (MOST, MOST - 1, MOST - 1, MOST - 2, Ordering::Less), // 1 + 1 / (MOST - 1) and 1 + 1 / (MOST - 2)
+        (MOST, 2, HALF, 1, Ordering::Less), // MOST / 2 is HALF - 1 / 2
+        (i128::MIN, 1, -MOST, 1, Ordering::Less),
+    ];
+    for (n, d, m, e, want) in table {
+        assert_eq!(rt; cmp_quotients(n, d, m, e), want, "{n} / {d} and {m} / {e}");
+    }
+    let half = Frac { num: 1, den: 2 };
+    let third = Frac { num: 1, den: 3 };
+    assert_eq!(rt; cmp_frac(&third, &half), Ordering::Less);
 }

@@ -32,5 +32,5 @@ loop-position-preserved c =
           (so_far-less c.args.split.now c.loop-position.position c.index-columns-number.result c.loop-position.ends.items c.model.ensures.split within known w.if-column.false c.loop-position.invariant)
     ]
 
-pub returns : goal.returns
-returns c = so_far-end c.args.split.now c.loop-position.position c.loop-position.ends.items (rw c.columns_of-number-items.ensures.value at c.loop-position-test.false) c.loop-position.invariant
+pub returns-clause-ends : goal.returns-clause-ends
+returns-clause-ends c = so_far-end c.args.split.now c.loop-position.position c.loop-position.ends.items (rw c.columns_of-number-items.ensures.value at c.loop-position-test.false) c.loop-position.invariant
