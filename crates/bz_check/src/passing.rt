@@ -88,7 +88,7 @@ fn passes_in(
     bound_holds(alloc, split, ends, certificate)
 }
 
-/// Whether the certificate passes and fits: exactly a sum or product of the check that is wide refuses one that passes.
+/// Whether the certificate passes and no sum of the check is wide. Only a wide sum refuses a certificate that passes.
 /// It takes memory for the costs of the parts, the ends of the integer columns and the sides of the leaf.
 pub fn passes(alloc: Global, split: &Split, certificate: &Certificate) -> Result<bool, OutOfMemory>
     ensures { IfOk result (λ passes. IsTrue passes ↔ (Passes split.now.model split.now.part certificate.now × FitsCheck split.now.model split.now.part certificate.now)) }
