@@ -57,15 +57,6 @@ pub memory_cause : (held : Option Contents) (job : Job) → IsCause held job Mem
 memory_cause None job = tt
 memory_cause (Some contents) job = tt
 
--- a text that is of no first form was held
-pub form_cause : (held : Option Contents) (job : Job) (file : File) (text : List ℕ) → Reached held job file → Holds held (name_of job file) text → length text ≤ limit_of file → IsCause held job (Form file)
-form_cause None job file text reached holds within = tt
-form_cause (Some contents) job file text reached holds within = record {
-  reached = reached;
-  text = text;
-  held = record { held = holds; within = within };
-}
-
 -- the partition's turn comes once the model is read
 pub part_reached : (held : Option Contents) (job : Job) (m : Model) (text : List ℕ) → Holds held (name_of job ModelFile) text → length text ≤ limit_of ModelFile → IsModelText text m → Reached held job PartFile
 part_reached None job m text holds within reads = tt
@@ -91,45 +82,17 @@ pub cert_reached : (held : Option Contents) (job : Job) (d : Decomposition) → 
 cert_reached None job d agreed = tt
 cert_reached (Some contents) job d agreed = (d, agreed)
 
--- the three texts were read
-pub check_cause : (held : Option Contents) (job : Job) (d : Decomposition) (text : List ℕ) (c : Certificate) → Accepted held job d → Holds held (name_of job CertFile) text → length text ≤ limit_of CertFile → IsCertText text c → IsCause held job Check
-check_cause None job d text c agreed holds within reads = tt
-check_cause (Some contents) job d text c agreed holds within reads = record {
-  split = d;
-  accepted = agreed;
-  text = text;
-  held = record { held = holds; within = within };
-  certificate = c;
-  reads = reads;
-}
-
--- the refusal of a text that was held
-pub refused_form : (held : Option Contents) (job : Job) (file : File) (text : List ℕ) (stop : FormStop) (refusal : Refusal)
-    → Reached held job file → Holds held (name_of job file) text → length text ≤ limit_of file → refusal ≡ refusal_of file stop → IsCause held job refusal
-refused_form held job file text Outside refusal reached holds within e =
-    subst (λ (r : Refusal). IsCause held job r) (sym e) (form_cause held job file text reached holds within)
-refused_form held job file text OutOfMemory refusal reached holds within e =
-    subst (λ (r : Refusal). IsCause held job r) (sym e) (memory_cause held job)
-
 -- what holds of the one error of a call holds of its error
 pub if_err_and : {T E : Type 0} {P Q : E → Type 0} (r : Result T E) → IsErrAnd r P → ((e : E) → P e → Q e) → IfErr r Q
 if_err_and (Ok _) h f = tt
 if_err_and (Err e) h f = f e h
-
--- the refusal of a check of three texts that were read
-pub check_refused : (held : Option Contents) (job : Job) (d : Decomposition) (text : List ℕ) (c : Certificate) (r : Refusal) → Accepted held job d → Holds held (name_of job CertFile) text → length text ≤ limit_of CertFile → IsCertText text c → RefusesCheck r → IsCause held job r
-check_refused held job d text c (Form _) agreed holds within reads refuses = absurd refuses
-check_refused held job d text c Check agreed holds within reads refuses = check_cause held job d text c agreed holds within reads
-check_refused held job d text c (Read _) agreed holds within reads refuses = absurd refuses
-check_refused held job d text c (TooLong _) agreed holds within reads refuses = absurd refuses
-check_refused held job d text c Memory agreed holds within reads refuses = memory_cause held job
 
 -- what follows of each error of a call
 pub if_err_then : {T E : Type 0} {P Q : E → Type 0} (r : Result T E) → ((e : E) → P e → Q e) → IfErr r P → IfErr r Q
 if_err_then (Ok _) f h = tt
 if_err_then (Err e) f h = f e h
 
--- what follows of each value of a call from four facts
-pub if_ok_then : {T E : Type 0} {P1 P2 P3 P4 Q : T → Type 0} (r : Result T E) → ((x : T) → P1 x → P2 x → P3 x → P4 x → Q x) → IfOk r P1 → IfOk r P2 → IfOk r P3 → IfOk r P4 → IfOk r Q
-if_ok_then (Ok x) f h1 h2 h3 h4 = f x h1 h2 h3 h4
-if_ok_then (Err _) f h1 h2 h3 h4 = tt
+-- what follows of each value of a call from five facts
+pub if_ok_then : {T E : Type 0} {P1 P2 P3 P4 P5 Q : T → Type 0} (r : Result T E) → ((x : T) → P1 x → P2 x → P3 x → P4 x → P5 x → Q x) → IfOk r P1 → IfOk r P2 → IfOk r P3 → IfOk r P4 → IfOk r P5 → IfOk r Q
+if_ok_then (Ok x) f h1 h2 h3 h4 h5 = f x h1 h2 h3 h4 h5
+if_ok_then (Err _) f h1 h2 h3 h4 h5 = tt

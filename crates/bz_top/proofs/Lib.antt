@@ -1,5 +1,8 @@
 pub mod Causes
 pub mod Fours
 pub mod Puts
+pub mod Refused
+pub mod Settled
 pub mod Showing
+pub mod Stub
 pub mod Texts

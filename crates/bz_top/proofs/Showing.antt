@@ -17,6 +17,7 @@ use Rattle.bz_top.specs.declared.status.File.TheVariants.{Cert as CertFile}
 use Rattle.bz_cert.specs.CertText.{IsCertText}
 use Rattle.bz_top.specs.Claims.{Accepted, Shown, limit_of}
 use Rattle.bz_top.specs.Ends.{name_of}
+use Rattle.bz_check.specs.Fits.{Fits}
 use Rattle.bz_check.specs.Stated.{IsReduced}
 
 swapped : (x y z : ℤ) → (x *ℤ y) *ℤ z ≡ (x *ℤ z) *ℤ y
@@ -33,10 +34,10 @@ same_through a b c positive p q =
 -- where the desk tells what it holds, the files show the optimum
 pub shows : PassingIsOptimal → PassingHasAPoint → (held then : Option Contents) (job : Job) (d : Decomposition) (c : Certificate) (text : List ℕ) (stated : Fraction)
     → IsSplit d → Accepted held job d → WhereTold IsSame held then → Holds then (name_of job CertFile) text → length text ≤ limit_of CertFile
-    → IsCertText text c → Passes d.model d.part c → IsSameNumber stated (stated_objective d.model c) → IsReduced stated
+    → IsCertText text c → Passes d.model d.part c → Fits d.model d.part c → IsSameNumber stated (stated_objective d.model c) → IsReduced stated
     → Shown held job stated
-shows optimal point None then job d c text stated split accepted same holds within reads passes equal reduced = tt
-shows optimal point (Some contents) (Some later) job d c text stated split accepted same holds within reads passes equal reduced =
+shows optimal point None then job d c text stated split accepted same holds within reads passes fits equal reduced = tt
+shows optimal point (Some contents) (Some later) job d c text stated split accepted same holds within reads passes fits equal reduced =
     let proved : IsProved d.model d.part c = record { columns = split.indexes; partition = split.partition; strict = split.strict; passes = passes } in
     let at : (p : List ℤ) × (q : ℤ) × IsPointOf d.model d.part c.parts p q = point d.model d.part c proved in
     let best : IsOptimal d.model at.0 at.1 × IsSameNumber (objective d.model at.0 at.1) (stated_objective d.model c) = optimal d.model d.part c at.0 at.1 proved at.2 in
@@ -56,6 +57,7 @@ shows optimal point (Some contents) (Some later) job d c text stated split accep
         certificate_is = reads;
         strict = split.strict;
         passes = passes;
+        fits = fits;
         p = at.0;
         q = at.1;
         point = at.2;
@@ -64,4 +66,4 @@ shows optimal point (Some contents) (Some later) job d c text stated split accep
         objective_is = same_through _ _ _ (mul_positive _ _ d.model.scale_positive passes.shape.den) equal best.1;
       };
     }
-shows optimal point (Some contents) None job d c text stated split accepted same holds within reads passes equal reduced = absurd same
+shows optimal point (Some contents) None job d c text stated split accepted same holds within reads passes fits equal reduced = absurd same

@@ -1,6 +1,7 @@
 -- What the program claims of a check.
 use Rattle.std.specs.Prelude.{ℕ, ℤ, ◌≡◌, ◌⊎◌, ◌<◌, ◌≤◌, ◌*◌, List, length, Option, Some, None, IsSomeAnd, Result, Ok, Err}
 use Rattle.bz_algebra.specs.Fractions.{Fraction, IsSameNumber}
+use Rattle.bz_check.specs.Fits.{Fits}
 use Rattle.bz_check.specs.Stated.{IsReduced}
 use Rattle.bz_io.specs.Desk.{Contents, HoldsWith}
 use Rattle.bz_io.specs.Faults.{HasRisen}
@@ -21,6 +22,7 @@ use Rattle.bz_top.specs.declared.status.Refusal.{Refusal}
 use Rattle.bz_top.specs.declared.status.Refusal.TheVariants.{Form, Check, Read, TooLong, Memory}
 use Rattle.bz_cert.specs.CertText.{IsCertText}
 use Rattle.bz_top.specs.declared.status.Status.{Status}
+use Rattle.bz_top.specs.declared.status.Status.TheVariants as status
 use Rattle.bz_top.specs.Ends.{name_of, status_of, refusal_text, file_of}
 use Rattle.bz_top.specs.Jobs.{JobOf, IsJobless}
 use Rattle.bz_mps.specs.ModelText.{IsModelText}
@@ -44,6 +46,7 @@ pub record ShowsOptimum (model_text part_text cert_text : List ℕ) (stated : Fr
   pub certificate_is : IsCertText cert_text certificate
   pub strict : IsStrict model part
   pub passes : Passes model part certificate
+  pub fits : Fits model part certificate
   pub p : List ℤ
   pub q : ℤ
   pub point : IsPointOf model part certificate.parts p q
@@ -95,25 +98,38 @@ IsReached contents job ModelFile = Unit {0}
 IsReached contents job PartFile = (m : Model) × ReadsModel contents job m
 IsReached contents job CertFile = (d : Decomposition) × IsAccepted contents job d
 
--- the file's turn comes, and it holds a text within its limit
-pub record IsLoaded (contents : Contents) (job : Job) (file : File) : Type 0 where
+-- the file holds the certificate's text, and c is its certificate
+pub record ReadsCertificate (contents : Contents) (job : Job) (c : Certificate) : Type 0 where
+  pub text : List ℕ
+  pub held : HoldsFile contents job CertFile text
+  pub reads : IsCertText text c
+
+-- the text of the file is outside of its first form: it says no model, or no strict partition of the model, or no
+-- certificate
+abbrev pub SaysNothing : Contents → Job → File → List ℕ → Type 0
+SaysNothing contents job ModelFile text = (m : Model) → IsModelText text m → ⊥
+SaysNothing contents job PartFile text = (d : Decomposition) → ReadsModel contents job d.model → IsPartText text d.model d.part → IsStrict d.model d.part → ⊥
+SaysNothing contents job CertFile text = (c : Certificate) → IsCertText text c → ⊥
+
+-- the file's turn comes, and it holds a text within its limit that is outside of its first form
+pub record IsOutside (contents : Contents) (job : Job) (file : File) : Type 0 where
   pub reached : IsReached contents job file
   pub text : List ℕ
   pub held : HoldsFile contents job file text
+  pub says_nothing : SaysNothing contents job file text
 
 -- the file's turn comes, and it is longer than its limit
 pub record IsTooLong (contents : Contents) (job : Job) (file : File) : Type 0 where
   pub reached : IsReached contents job file
   pub too_long : IsSomeAnd (contents (name_of job file)) (λ text. limit_of file < length text)
 
--- the three texts are read
-pub record AreRead (contents : Contents) (job : Job) : Type 0 where
+-- the three texts are read, and the certificate doesn't pass or one of its sums doesn't fit
+pub record IsCertRefused (contents : Contents) (job : Job) : Type 0 where
   pub split : Decomposition
   pub accepted : IsAccepted contents job split
-  pub text : List ℕ
-  pub held : HoldsFile contents job CertFile text
   pub certificate : Certificate
-  pub reads : IsCertText text certificate
+  pub reads : ReadsCertificate contents job certificate
+  pub refused : (d : Decomposition) (c : Certificate) → IsAccepted contents job d → ReadsCertificate contents job c → Passes d.model d.part c → Fits d.model d.part c → ⊥
 
 -- a load of the file may end with the refusal: the file is longer than its limit where that is said, and where the
 -- desk tells what it holds
@@ -124,18 +140,18 @@ RefusesFile held job file (Read f) = f ≡ file
 RefusesFile held job file (TooLong f) = (f ≡ file) × HoldsWith held (name_of job file) (λ text. limit_of file < length text)
 RefusesFile held job file Memory = Unit {0}
 
--- a check may end with the refusal
-abbrev pub RefusesCheck : Refusal → Type 0
-RefusesCheck (Form _) = ⊥
-RefusesCheck Check = Unit {0}
-RefusesCheck (Read _) = ⊥
-RefusesCheck (TooLong _) = ⊥
-RefusesCheck Memory = Unit {0}
+-- a check of the certificate may end with the refusal: it doesn't pass or doesn't fit where that is said
+abbrev pub RefusesCheck : Decomposition → Certificate → Refusal → Type 0
+RefusesCheck d c (Form _) = ⊥
+RefusesCheck d c Check = Passes d.model d.part c → Fits d.model d.part c → ⊥
+RefusesCheck d c (Read _) = ⊥
+RefusesCheck d c (TooLong _) = ⊥
+RefusesCheck d c Memory = Unit {0}
 
 -- what a refusal says of the contents
 abbrev pub IsCauseIn : Contents → Job → Refusal → Type 0
-IsCauseIn contents job (Form file) = IsLoaded contents job file
-IsCauseIn contents job Check = AreRead contents job
+IsCauseIn contents job (Form file) = IsOutside contents job file
+IsCauseIn contents job Check = IsCertRefused contents job
 IsCauseIn contents job (Read file) = IsReached contents job file
 IsCauseIn contents job (TooLong file) = IsTooLong contents job file
 IsCauseIn contents job Memory = Unit {0}
@@ -144,6 +160,30 @@ IsCauseIn contents job Memory = Unit {0}
 abbrev pub IsCause : Option Contents → Job → Refusal → Type 0
 IsCause None job refusal = Unit {0}
 IsCause (Some contents) job refusal = IsCauseIn contents job refusal
+
+-- The contents settle the status: the files show an optimum, or the first of them that is too long or outside of its
+-- form, or else the check, gives a refusal. A status that depends on a fault or on memory is not settled by them.
+abbrev pub Settles : Contents → Job → Status → Type 0
+Settles contents job status.Done = (stated : Fraction) × ShownBy contents job stated
+Settles contents job status.Unresolved = ⊥
+Settles contents job status.Usage = ⊥
+Settles contents job status.Model = IsOutside contents job ModelFile
+Settles contents job status.Part = IsOutside contents job PartFile
+Settles contents job status.Read = ⊥
+Settles contents job status.Write = ⊥
+Settles contents job status.Memory = ⊥
+Settles contents job status.Cert = IsOutside contents job CertFile ⊎ IsCertRefused contents job
+Settles contents job status.TooLong = (file : File) × IsTooLong contents job file
+
+-- a status that no text settles: a read or a write failed, or there is no memory
+abbrev pub IsBroken : Status → Type 0
+IsBroken s = (s ≡ status.Read) ⊎ ((s ≡ status.Write) ⊎ (s ≡ status.Memory))
+
+-- where the desk tells what it holds, a check ends with the status that the contents settle, unless a read or a write
+-- failed or there is no memory
+abbrev pub EndsSettled : Option Contents → Job → Status → Type 0
+EndsSettled None job ends = Unit {0}
+EndsSettled (Some contents) job ends = (settled : Status) → Settles contents job settled → (ends ≡ settled) ⊎ IsBroken ends
 
 -- a load that failed raised the desk's count of faults, and any other end leaves it as it was
 abbrev pub CountsFiles : {T : Type 0} → Result T Refusal → ℕ → ℕ → Type 0
@@ -210,6 +250,10 @@ pub record BreaksOffAsked (words : List (List ℕ)) (held : Option Contents) (be
   pub job : Job
   pub asked : JobOf words job
   pub breaks : BreaksOff held job before after
+
+-- the status is the one that the contents settle for the job of the words
+abbrev pub EndsSettledAsked : List (List ℕ) → Option Contents → Status → Type 0
+EndsSettledAsked words held ends = (job : Job) → JobOf words job → EndsSettled held job ends
 
 -- a prefix of the usage line was taken, for words without a job
 pub record BreaksOffUsage (words : List (List ℕ)) (before after : Option (List ℕ)) : Type 0 where

@@ -5,6 +5,7 @@ ghost use Rattle.bz_io.specs.Told.{WhereTold};
 ghost use Rattle.bz_top.specs.Claims.{Accepted, CountsFiles, IsCause, RefusesCheck, RefusesFile, Shown, limit_of, refusal_of};
 ghost use Rattle.bz_top.specs.Ends.{name_of};
 ghost use Rattle.bz_algebra.specs.Fractions.{IsSameNumber};
+ghost use Rattle.bz_check.specs.Fits.{Fits};
 ghost use Rattle.bz_check.specs.Stated.{IsReduced, stated_fraction};
 ghost use Rattle.bz_model.specs.Splits.{IsSplit};
 ghost use Rattle.bz_pass.specs.Certificates.{Passes, stated_objective};
@@ -100,9 +101,10 @@ fn load_split<D: Desk>(alloc: Global, job: &Job, desk: &mut D) -> Result<Split, 
 /// The objective that the certificate states, where the certificate passes.
 fn agree(alloc: Global, split: &Split, certificate: &Certificate) -> Result<Stated, Refusal>
     ensures passes { IfOk result (λ _. Passes split.now.model split.now.part certificate.now) }
+    ensures fits { IfOk result (λ _. Fits split.now.model split.now.part certificate.now) }
     ensures same { IfOk result (λ s. IsSameNumber (stated_fraction s) (stated_objective split.now.model certificate.now)) }
     ensures reduced { IfOk result (λ s. IsReduced (stated_fraction s)) }
-    ensures refused { IfErr result RefusesCheck }
+    ensures refused { IfErr result (RefusesCheck split.now certificate.now) }
     ensures split { IfOk result (λ _. IsSplit split.now) }
 {
     match passes(alloc, split, certificate) {

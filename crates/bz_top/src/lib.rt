@@ -2,6 +2,8 @@
 #![tactic(auto)]
 
 mod check;
+#[cfg(test)]
+mod edge_tests;
 mod job;
 mod print;
 mod running;

@@ -5,7 +5,7 @@ ghost use Rattle.bz_io.specs.Desk.{IsSame};
 ghost use Rattle.bz_io.specs.Faults.{HasRisen};
 ghost use Rattle.bz_io.specs.Sink.{Takes};
 ghost use Rattle.bz_io.specs.Told.{WhereTold};
-ghost use Rattle.bz_top.specs.Claims.{ShowsOptimumOf, ShowsOptimumAsked, RefusesJob, RefusesAsked, BreaksOff, BreaksOffAsked, BreaksOffUsage};
+ghost use Rattle.bz_top.specs.Claims.{EndsSettled, EndsSettledAsked, ShowsOptimumOf, ShowsOptimumAsked, RefusesJob, RefusesAsked, BreaksOff, BreaksOffAsked, BreaksOffUsage};
 ghost use Rattle.bz_top.specs.Ends.{status_after as after_put, IsRefused};
 ghost use Rattle.bz_top.specs.Jobs.{IsJobless};
 ghost use Rattle.bz_top.specs.Texts.{usage_text};
@@ -37,6 +37,9 @@ pub fn do_alone<D: Desk, O: Sink>(alloc: Global, job: &Job, desk: &mut D, out: &
     ensures never { (result ≢ Status.Usage) × (result ≢ Status.Unresolved) }
     ensures refused { IsRefused result → RefusesJob (D.held desk.old) job.now result (O.taken out.old) (O.taken out.new) }
     ensures written { result ≡ Status.Write → BreaksOff (D.held desk.old) job.now (O.taken out.old) (O.taken out.new) }
+
+    // The status that the files settle comes, unless a read or a write failed or there is no memory.
+    ensures settled { EndsSettled (D.held desk.old) job.now result }
 
     // A count of faults rises where the status says so, and else stays.
     ensures read { result ≡ Status.Read → HasRisen (D.faults desk.old) (D.faults desk.new) }
@@ -74,6 +77,9 @@ pub fn run<D: Desk, O: Sink>(alloc: Global, words: &[String], desk: &mut D, out:
     ensures written { result ≡ Status.Write →
         BreaksOffAsked (map string_bytes words.now) (D.held desk.old) (O.taken out.old) (O.taken out.new)
         ⊎ BreaksOffUsage (map string_bytes words.now) (O.taken out.old) (O.taken out.new) }
+
+    // The status that the files settle comes, unless a read or a write failed or there is no memory.
+    ensures settled { EndsSettledAsked (map string_bytes words.now) (D.held desk.old) result }
 
     // A count of faults rises where the status says so, and else stays.
     ensures read { result ≡ Status.Read → HasRisen (D.faults desk.old) (D.faults desk.new) }

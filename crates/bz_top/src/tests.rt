@@ -4,12 +4,12 @@ use bz_io::{MemDesk, MemSink};
 use std::alloc::{AllocError, Global};
 use std::test::Fail;
 
-const MODEL: &str =
+pub(crate) const MODEL: &str =
     "NAME ONE\nROWS\n N COST\n G LINK\nCOLUMNS\n M1 'MARKER' 'INTORG'\n x COST 1 LINK 1\n M2 'MARKER' 'INTEND'\n y COST 2 LINK 1\nRHS\n RHS LINK 1\nBOUNDS\n UP BND x 1\nENDATA\n";
 
-const PART: &str = "cpxBendersPartition 1\nx 0\n";
+pub(crate) const PART: &str = "cpxBendersPartition 1\nx 0\n";
 
-const CERT: &str =
+pub(crate) const CERT: &str =
     "bzcert 1\nverdict optimal\nmaster 1 1\neta 0\nblock 1 1 0\nvalue 1\ncuts 1\ncut 1 1 -2 1 1 0 -2 1 0 2\nleaf 1 1 2 0 1 2 1\nend\n";
 
 const WRONG_LEAF: &str =
@@ -20,15 +20,15 @@ const USAGE: &str =
 
 /// The files of a check, under the names m, p and c, and the numbers of the loads and puts that fail.
 #[derive(Clone, Copy)]
-struct Case<'a> {
-    model: &'a str,
-    part: &'a str,
-    cert: &'a str,
-    failing_load: Option<u64>,
-    failing_put: Option<u64>,
+pub(crate) struct Case<'a> {
+    pub model: &'a str,
+    pub part: &'a str,
+    pub cert: &'a str,
+    pub failing_load: Option<u64>,
+    pub failing_put: Option<u64>,
 }
 
-const FIRST: Case<'static> = Case {
+pub(crate) const FIRST: Case<'static> = Case {
     model: MODEL,
     part: PART,
     cert: CERT,
@@ -49,7 +49,7 @@ fn numbers(alloc: Global, number: Option<u64>) -> Result<Vec<u64>, AllocError> {
 }
 
 /// How the program ends on these words, and what it prints.
-fn ends(alloc: Global, words: &[&str], case: &Case) -> Result<(Status, Vec<u8>), AllocError> {
+pub(crate) fn ends(alloc: Global, words: &[&str], case: &Case) -> Result<(Status, Vec<u8>), AllocError> {
     let mut files = Vec::new(alloc);
     files.push((bytes(alloc, "m")?, bytes(alloc, case.model)?))?;
     files.push((bytes(alloc, "p")?, bytes(alloc, case.part)?))?;
@@ -127,9 +127,15 @@ fn tells_the_file_that_could_not_be_read(rt: HostRuntime) -> Result<(), Fail> {
 
 #[test]
 fn ends_with_a_write_fault_where_a_put_fails(rt: HostRuntime) -> Result<(), Fail> {
-    let all: [(u64, &[u8]); 2] = [(0, b""), (1, b"certifi")];
-    for (number, text) in all {
+    let all: [(&str, u64, &[u8]); 4] = [
+        (CERT, 0, b""),
+        (CERT, 1, b"certifi"),
+        (WRONG_LEAF, 0, b""),
+        (WRONG_LEAF, 1, b"certifi"),
+    ];
+    for (cert, number, text) in all {
         let case = Case {
+            cert,
             failing_put: Some(number),
             ..FIRST
         };

@@ -1,11 +1,19 @@
 use Rattle.std.proofs.Common.{ℕ, List, ◌≡◌, subst, sym}
+use Rattle.std.specs.Prelude.{Err}
+use Rattle.bz_lines.specs.Reading.{Reads}
 use Rattle.bz_model.specs.declared.Split.{Split}
+use Rattle.bz_mps.specs.ModelText.{IsModelText}
+use Rattle.bz_top.proofs.Stub.{one_model}
 use Rattle.bz_top.specs.declared.status.File.TheVariants.{Part as PartFile}
 use Rattle.bz_top.specs.declared.status.Refusal.{Refusal}
 use Rattle.bz_top.specs.Claims.{IsCause}
-use Rattle.bz_mps.specs.ModelText.{IsModelText}
-use Rattle.bz_top.proofs.Causes.{part_reached, load_cause, held_at_first, refused_form, if_err_and}
+use Rattle.bz_top.proofs.Causes.{part_reached, load_cause, held_at_first, if_err_and}
+use Rattle.bz_top.proofs.Refused.{model_refused, part_refused}
 use Rattle.bz_top.proofs.check.load_split.Goals as goal
+
+pub returns-in-Err-clause-cause : goal.returns-in-Err-clause-cause
+returns-in-Err-clause-cause g c =
+    model_refused _ _ _ _ _ c.in_ok-text.ensures.whole c.in_ok-text.ensures.within ? c.refuse.ensures
 
 pub returns-in_err-text-2-clause-cause : goal.returns-in_err-text-2-clause-cause
 returns-in_err-text-2-clause-cause g c =
@@ -22,5 +30,5 @@ returns-in-Err-read_part-clause-cause g c =
     let reads : IsModelText c.in_ok-text.text.items c.in-Ok.model =
     subst (λ (text : List ℕ). IsModelText text c.in-Ok.model) c.as_slice.ensures.value c.in-Ok.ensures.reads in
     let held = held_at_first _ _ c.args.job.now PartFile _ c.in_ok-text.ensures.kept c.in_ok-text-2.ensures.whole in
-    refused_form _ _ _ _ _ _ (part_reached _ _ _ _ c.in_ok-text.ensures.whole c.in_ok-text.ensures.within reads) held
-    c.in_ok-text-2.ensures.within c.refuse-in-Err-read_part.ensures
+    part_refused one_model _ _ _ _ _ _ _ c.in_ok-text.ensures.whole c.in_ok-text.ensures.within reads held
+    c.in_ok-text-2.ensures.within ? c.refuse-in-Err-read_part.ensures

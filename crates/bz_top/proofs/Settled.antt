@@ -1,0 +1,240 @@
+-- What the contents settle is the one end of a check that nothing breaks.
+--
+-- A check passes seven stages, one after another, and ends at the first that fails, or behind the last. So two ends of
+-- the same contents are at the same stage.
+use Rattle.std.proofs.Common.{◌≡◌, ◌≢◌, ◌⊎◌, inl, inr, ℕ, zero, suc, ◌<◌, ◌≤◌, List, length, Option, Some, None, refl, sym, subst, ap, ◌∙◌, arith}
+use Rattle.std.specs.Prelude.{IsSomeAnd, Result, Ok, Err, [], ◌∷◌, codes}
+use Rattle.std.specs.List.{slice_index_or}
+use Rattle.bz_algebra.proofs.Bounded.{by_lt, by_order}
+use Rattle.bz_algebra.specs.Fractions.{Fraction}
+use Rattle.bz_io.specs.Desk.{Contents}
+use Rattle.bz_model.specs.declared.Model.{Model}
+use Rattle.bz_model.specs.Splits.{Decomposition}
+use Rattle.bz_pass.specs.declared.Certificate.{Certificate}
+use Rattle.bz_pass.specs.Certificates.{Passes}
+use Rattle.bz_check.specs.Fits.{Fits}
+use Rattle.bz_top.specs.declared.job.Job.{Job}
+use Rattle.bz_top.specs.declared.job.Job.TheVariants.{Check as AJob}
+use Rattle.bz_top.specs.declared.status.File.{File}
+use Rattle.bz_top.specs.declared.status.File.TheVariants.{Model as ModelFile, Part as PartFile, Cert as CertFile}
+use Rattle.bz_top.specs.declared.status.Refusal.{Refusal}
+use Rattle.bz_top.specs.declared.status.Refusal.TheVariants.{Form, Check, Read, TooLong, Memory}
+use Rattle.bz_top.specs.declared.status.Status.{Status}
+use Rattle.bz_top.specs.declared.status.Status.TheVariants as status
+use Rattle.bz_cert.specs.CertText.{IsCertText}
+use Rattle.bz_mps.specs.ModelText.{IsModelText}
+use Rattle.bz_part.specs.PartText.{IsPartText}
+use Rattle.bz_top.specs.Claims.{HoldsFile, IsAccepted, IsBroken, IsCauseIn, IsCertRefused, IsOutside, IsTooLong, ReadsCertificate, ReadsModel, Settles, ShownBy, EndsSettled, EndsSettledAsked, IsCause, Shown, limit_of}
+use Rattle.bz_top.specs.Ends.{name_of, status_after, status_of}
+use Rattle.bz_top.specs.Jobs.{IsJobless, JobOf}
+use Rattle.bz_top.proofs.Refused.{one_text}
+
+-- the file holds a text within its limit
+abbrev IsHeld : Contents → Job → File → Type 0
+IsHeld contents job file = (text : List ℕ) × HoldsFile contents job file text
+
+-- an accepted decomposition and a certificate that passes and fits
+record IsProven (contents : Contents) (job : Job) : Type 0 where
+  split : Decomposition
+  certificate : Certificate
+  accepted : IsAccepted contents job split
+  reads : ReadsCertificate contents job certificate
+  passes : Passes split.model split.part certificate
+  fits : Fits split.model split.part certificate
+
+-- the stage is passed
+abbrev Passed : Contents → Job → ℕ → Type 0
+Passed contents job zero = IsHeld contents job ModelFile
+Passed contents job (suc zero) = (m : Model) × ReadsModel contents job m
+Passed contents job (suc (suc zero)) = IsHeld contents job PartFile
+Passed contents job (suc (suc (suc zero))) = (d : Decomposition) × IsAccepted contents job d
+Passed contents job (suc (suc (suc (suc zero)))) = IsHeld contents job CertFile
+Passed contents job (suc (suc (suc (suc (suc zero))))) = (c : Certificate) × ReadsCertificate contents job c
+Passed contents job (suc (suc (suc (suc (suc (suc zero)))))) = IsProven contents job
+Passed contents job (suc (suc (suc (suc (suc (suc (suc k))))))) = ⊥
+
+-- the stage fails and those before it are passed
+record EndsAt (contents : Contents) (job : Job) (k : ℕ) : Type 0 where
+  before : (i : ℕ) → i < k → Passed contents job i
+  fails : Passed contents job k → ⊥
+
+-- the status of an end at a stage
+abbrev status_at : ℕ → Status
+status_at zero = status.TooLong
+status_at (suc zero) = status.Model
+status_at (suc (suc zero)) = status.TooLong
+status_at (suc (suc (suc zero))) = status.Part
+status_at (suc (suc (suc (suc zero)))) = status.TooLong
+status_at (suc (suc (suc (suc (suc zero))))) = status.Cert
+status_at (suc (suc (suc (suc (suc (suc zero)))))) = status.Cert
+status_at (suc (suc (suc (suc (suc (suc (suc k))))))) = status.Done
+
+-- two ends are at one stage
+same_stage : (contents : Contents) (job : Job) (j k : ℕ) → EndsAt contents job j → EndsAt contents job k → j ≡ k
+same_stage contents job j k p q = by_order j k (λ b. absurd (p.fails (q.before j b))) (λ e. e) (λ b. absurd (q.fails (p.before k b)))
+
+-- a file that is too long holds no text within its limit
+not_held : (contents : Contents) (job : Job) (file : File) → IsTooLong contents job file → IsHeld contents job file → ⊥
+not_held contents job file long held =
+    let more : limit_of file < length held.0 = subst (λ (o : Option (List ℕ)). IsSomeAnd o (λ text. limit_of file < length text)) held.1.held long.too_long in
+    let within = held.1.within in
+    absurd (omega (arith, more, within))
+
+-- the stages before the turn of each file
+before_part : (contents : Contents) (job : Job) → (m : Model) × ReadsModel contents job m → (i : ℕ) → i < 2 → Passed contents job i
+before_part contents job r zero b = (r.1.text, r.1.held)
+before_part contents job r (suc zero) b = r
+before_part contents job r (suc (suc i)) b = absurd (omega arith)
+
+before_cert : (contents : Contents) (job : Job) → (d : Decomposition) × IsAccepted contents job d → (i : ℕ) → i < 4 → Passed contents job i
+before_cert contents job a zero b = (a.1.model.text, a.1.model.held)
+before_cert contents job a (suc zero) b = (a.0.model, a.1.model)
+before_cert contents job a (suc (suc zero)) b = (a.1.part_text, a.1.part)
+before_cert contents job a (suc (suc (suc zero))) b = a
+before_cert contents job a (suc (suc (suc (suc i)))) b = absurd (omega arith)
+
+before_check : (contents : Contents) (job : Job) → (d : Decomposition) × IsAccepted contents job d → (c : Certificate) × ReadsCertificate contents job c → (i : ℕ) → i < 6 → Passed contents job i
+before_check contents job a r i b = by_lt i 4 (before_cert contents job a i) (λ l. last i l b)
+  where
+    last : (i : ℕ) → 4 ≤ i → i < 6 → Passed contents job i
+    last zero l b = absurd (omega (arith, l))
+    last (suc zero) l b = absurd (omega (arith, l))
+    last (suc (suc zero)) l b = absurd (omega (arith, l))
+    last (suc (suc (suc zero))) l b = absurd (omega (arith, l))
+    last (suc (suc (suc (suc zero)))) l b = (r.1.text, r.1.held)
+    last (suc (suc (suc (suc (suc zero))))) l b = r
+    last (suc (suc (suc (suc (suc (suc i)))))) l b = absurd (omega (arith, b))
+
+-- one stage more
+with_one : (contents : Contents) (job : Job) (k : ℕ) → ((i : ℕ) → i < k → Passed contents job i) → Passed contents job k → (i : ℕ) → i < suc k → Passed contents job i
+with_one contents job k before here i b = by_lt i k (before i) (λ l. let e : i ≡ k = omega (arith, l, b) in subst (λ (n : ℕ). Passed contents job n) (sym e) here)
+
+-- an end with its stage and its status
+record HasStage (contents : Contents) (job : Job) (s : Status) : Type 0 where
+  stage : ℕ
+  ends : EndsAt contents job stage
+  status_is : s ≡ status_at stage
+
+one_status : (contents : Contents) (job : Job) (s t : Status) → HasStage contents job s → HasStage contents job t → s ≡ t
+one_status contents job s t p q = p.status_is ∙ ap status_at (same_stage contents job p.stage q.stage p.ends q.ends) ∙ sym q.status_is
+
+too_long_stage : (contents : Contents) (job : Job) (file : File) → IsTooLong contents job file → HasStage contents job status.TooLong
+too_long_stage contents job ModelFile long = record { stage = 0; ends = record { before = λ i b. absurd (omega (arith, b)); fails = not_held contents job ModelFile long }; status_is = refl }
+too_long_stage contents job PartFile long = record { stage = 2; ends = record { before = before_part contents job long.reached; fails = not_held contents job PartFile long }; status_is = refl }
+too_long_stage contents job CertFile long = record { stage = 4; ends = record { before = before_cert contents job long.reached; fails = not_held contents job CertFile long }; status_is = refl }
+
+outside_stage : (contents : Contents) (job : Job) (file : File) → IsOutside contents job file → HasStage contents job (status_of (Form file))
+outside_stage contents job ModelFile out = record {
+  stage = 1;
+  ends = record {
+    before = with_one contents job 0 (λ i b. absurd (omega (arith, b))) (out.text, out.held);
+    fails = λ r. out.says_nothing r.0 (subst (λ (t : List ℕ). IsModelText t r.0) (one_text contents job ModelFile _ _ r.1.held out.held) r.1.reads);
+  };
+  status_is = refl;
+}
+outside_stage contents job PartFile out = record {
+  stage = 3;
+  ends = record {
+    before = with_one contents job 2 (before_part contents job out.reached) (out.text, out.held);
+    fails = λ a. out.says_nothing a.0 a.1.model (subst (λ (t : List ℕ). IsPartText t a.0.model a.0.part) (one_text contents job PartFile _ _ a.1.part out.held) a.1.part_is) a.1.strict;
+  };
+  status_is = refl;
+}
+outside_stage contents job CertFile out = record {
+  stage = 5;
+  ends = record {
+    before = with_one contents job 4 (before_cert contents job out.reached) (out.text, out.held);
+    fails = λ r. out.says_nothing r.0 (subst (λ (t : List ℕ). IsCertText t r.0) (one_text contents job CertFile _ _ r.1.held out.held) r.1.reads);
+  };
+  status_is = refl;
+}
+
+refused_stage : (contents : Contents) (job : Job) → IsCertRefused contents job → HasStage contents job status.Cert
+refused_stage contents job r = record {
+  stage = 6;
+  ends = record {
+    before = before_check contents job (r.split, r.accepted) (r.certificate, r.reads);
+    fails = λ p. r.refused p.split p.certificate p.accepted p.reads p.passes p.fits;
+  };
+  status_is = refl;
+}
+
+done_stage : (contents : Contents) (job : Job) (stated : Fraction) → ShownBy contents job stated → HasStage contents job status.Done
+done_stage contents job stated s =
+    let d : Decomposition = record { model = s.shows.model; part = s.shows.part } in
+    let accepted : IsAccepted contents job d = record {
+      model = record { text = s.model_text; held = s.model; reads = s.shows.model_is };
+      part_text = s.part_text;
+      part = s.part;
+      part_is = s.shows.part_is;
+      strict = s.shows.strict;
+    } in
+    let reads : ReadsCertificate contents job s.shows.certificate = record { text = s.cert_text; held = s.cert; reads = s.shows.certificate_is } in
+    record {
+      stage = 7;
+      ends = record {
+        before = with_one contents job 6 (before_check contents job (d, accepted) (s.shows.certificate, reads)) (record {
+          split = d; certificate = s.shows.certificate; accepted = accepted; reads = reads; passes = s.shows.passes; fits = s.shows.fits;
+        });
+        fails = λ bad. bad;
+      };
+      status_is = refl;
+    }
+
+settled_stage : (contents : Contents) (job : Job) (s : Status) → Settles contents job s → HasStage contents job s
+settled_stage contents job status.Done h = done_stage contents job h.0 h.1
+settled_stage contents job status.Unresolved h = absurd h
+settled_stage contents job status.Usage h = absurd h
+settled_stage contents job status.Model h = outside_stage contents job ModelFile h
+settled_stage contents job status.Part h = outside_stage contents job PartFile h
+settled_stage contents job status.Read h = absurd h
+settled_stage contents job status.Write h = absurd h
+settled_stage contents job status.Memory h = absurd h
+settled_stage contents job status.Cert h = elim h [ inl out ↦ outside_stage contents job CertFile out | inr r ↦ refused_stage contents job r ]
+settled_stage contents job status.TooLong h = too_long_stage contents job h.0 h.1
+
+-- the files show an optimum: so no other status is settled
+pub done_settled : (held : Option Contents) (job : Job) (stated : Fraction) → Shown held job stated → EndsSettled held job status.Done
+done_settled None job stated shown = tt
+done_settled (Some contents) job stated shown = λ s h. inl (one_status contents job status.Done s (done_stage contents job stated shown) (settled_stage contents job s h))
+
+broken_of : (held : Option Contents) (job : Job) (ends : Status) → IsBroken ends → EndsSettled held job ends
+broken_of None job ends b = tt
+broken_of (Some contents) job ends b = λ s h. inr b
+
+-- a write that failed settles nothing
+pub write_settled : (held : Option Contents) (job : Job) → EndsSettled held job status.Write
+write_settled held job = broken_of held job status.Write (inr (inl refl))
+
+-- a refusal with its cause: so no other status is settled
+pub refusal_settled : (held : Option Contents) (job : Job) (r : Refusal) → IsCause held job r → EndsSettled held job (status_of r)
+refusal_settled None job r cause = tt
+refusal_settled (Some contents) job (Form file) cause = λ s h. inl (one_status contents job _ s (outside_stage contents job file cause) (settled_stage contents job s h))
+refusal_settled (Some contents) job Check cause = λ s h. inl (one_status contents job status.Cert s (refused_stage contents job cause) (settled_stage contents job s h))
+refusal_settled (Some contents) job (Read file) cause = λ s h. inr (inl refl)
+refusal_settled (Some contents) job (TooLong file) cause = λ s h. inl (one_status contents job status.TooLong s (too_long_stage contents job file cause) (settled_stage contents job s h))
+refusal_settled (Some contents) job Memory cause = λ s h. inr (inr (inr refl))
+
+-- the status after the last text settles no more than it did before
+pub after_settled : {T E : Type 0} (put : Result T E) (held : Option Contents) (job : Job) (s : Status) → EndsSettled held job s → EndsSettled held job (status_after put s)
+after_settled (Ok _) held job s h = h
+after_settled (Err _) held job s h = write_settled held job
+
+-- ---- the job of the words
+
+-- the words ask for one job
+one_job : (words : List (List ℕ)) (j k : Job) → JobOf words j → JobOf words k → j ≡ k
+one_job words (AJob m p c) (AJob n q d) h k =
+    let same : codes "check" ∷ m ∷ p ∷ c ∷ [] ≡ codes "check" ∷ n ∷ q ∷ d ∷ [] = sym h.words_are ∙ k.words_are in
+    let at : (i : ℕ) → slice_index_or (codes "check" ∷ m ∷ p ∷ c ∷ []) i [] ≡ slice_index_or (codes "check" ∷ n ∷ q ∷ d ∷ []) i [] =
+    λ i. ap (λ (ws : List (List ℕ)). slice_index_or ws i []) same in
+    ap (λ (x : List ℕ). AJob x p c) (at 1) ∙ ap (λ (x : List ℕ). AJob n x c) (at 2) ∙ ap (λ (x : List ℕ). AJob n q x) (at 3)
+
+pub asked_settled : (words : List (List ℕ)) (job : Job) (held : Option Contents) (ends : Status) → JobOf words job → EndsSettled held job ends → EndsSettledAsked words held ends
+asked_settled words job held ends asked h other also = subst (λ (j : Job). EndsSettled held j ends) (one_job words job other asked also) h
+
+pub jobless_settled : (words : List (List ℕ)) (held : Option Contents) (ends : Status) → IsJobless words → EndsSettledAsked words held ends
+jobless_settled words held ends none job asked = absurd (none job asked)
+
+pub memory_settled : {T E : Type 0} (put : Result T E) (words : List (List ℕ)) (held : Option Contents) → EndsSettledAsked words held (status_after put status.Memory)
+memory_settled put words held job asked = after_settled put held job status.Memory (broken_of held job status.Memory (inr (inr refl)))
