@@ -1,17 +1,16 @@
 -- Lines of a certificate's text one after another.
-use Rattle.std.proofs.Common.{◌≡◌, ◌∷◌, ◌++◌, ◌∙◌, [], ℕ, suc, ◌+◌, ℤ, pos, List, map, length, codes, arith, ◌<◌, ◌≤◌, ◌^◌, ap, sym, refl, subst, append_assoc, append-nil, add-zero, length-append}
+use Rattle.std.proofs.Common.{◌≡◌, ◌∷◌, ◌++◌, ◌∙◌, [], ℕ, suc, ◌+◌, ℤ, pos, List, map, length, codes, arith, ◌<◌, ◌^◌, ap, sym, refl, subst, append_assoc, append-nil, add-zero, length-append}
 use Rattle.std.specs.Fmt.{signed_decimal}
 use Rattle.std.specs.List.{AllByRecursion, enumerate_from, flat_map}
 use Rattle.std.proofs.lemmas.Grind.{flat_map-append}
 use Rattle.bz_algebra.specs.Sums.{AllBelow}
-use Rattle.bz_num.specs.Row.{IsSparse}
 use Rattle.bz_model.specs.declared.BlockPart.{BlockPart}
 use Rattle.bz_pass.specs.declared.Certificate.{Certificate}
 use Rattle.bz_pass.specs.declared.Cut.{Cut}
 use Rattle.bz_lines.proofs.ListLemmas.{all_joined}
 use Rattle.bz_lines.specs.SmallNumbers.{IsSpelled}
-use Rattle.bz_cert.specs.CertText.{CertLine, bytes_of, IsCertText, IsSparseList, block_line, cert_lines, cut_line, sparse_numbers}
-use Rattle.bz_cert.specs.CertReading.{AreTwoLists, BeginsWithCuts, BeginsWithLines, BeginsWithList, BeginsWithPairs, IsLineOfCut, IsFitCut, block_lines, first_lines, leaf_lines, line_with, master_lines, pair_numbers, value_lines}
+use Rattle.bz_cert.specs.CertText.{CertLine, bytes_of, IsCertText, IsSparseList, block_line, cert_lines, cut_line}
+use Rattle.bz_cert.specs.CertReading.{BeginsWithBlocks, BeginsWithCuts, BeginsWithValue, IsTextOfLeaf, BeginsWithLines, BeginsWithPairs, IsLineOfCut, IsFitCut, block_lines, first_lines, leaf_lines, line_with, master_lines, pair_numbers, value_lines}
 
 pub lines_joined : (first second : List CertLine) (text middle rest : List ℕ) →
     BeginsWithLines first text middle → BeginsWithLines second middle rest → BeginsWithLines (first ++ second) text rest
@@ -35,30 +34,31 @@ enumerated_push n (y ∷ ys) x =
 
 -- the lines of blocks with one more
 block_lines_push : (blocks : List BlockPart) (block : BlockPart) →
-    block_lines (blocks ++ block ∷ []) ≡ block_lines blocks ++ block_line (length blocks + 1, block) ∷ []
+    block_lines 1 (blocks ++ block ∷ []) ≡ block_lines 1 blocks ++ block_line (length blocks + 1, block) ∷ []
 block_lines_push blocks block =
     let e : 1 + length blocks ≡ length blocks + 1 = omega arith in
     ap (map block_line) (enumerated_push 1 blocks block) ∙ map-append block_line (enumerate_from 1 blocks) _
-    ∙ ap (λ k. block_lines blocks ++ block_line (k, block) ∷ []) e
+    ∙ ap (λ k. block_lines 1 blocks ++ block_line (k, block) ∷ []) e
 
 pub block_pushed : (blocks : List BlockPart) (block : BlockPart) (numbers : List ℤ) (text middle rest : List ℕ) →
-    BeginsWithLines (block_lines blocks) text middle → BeginsWithLines (line_with (codes "block") numbers ∷ []) middle rest →
-    numbers ≡ pos (length blocks + 1) ∷ block.times ∷ block.y → BeginsWithLines (block_lines (blocks ++ block ∷ [])) text rest
+    BeginsWithLines (block_lines 1 blocks) text middle → BeginsWithLines (line_with (codes "block") numbers ∷ []) middle rest →
+    numbers ≡ pos (length blocks + 1) ∷ block.times ∷ block.y → BeginsWithLines (block_lines 1 (blocks ++ block ∷ [])) text rest
 block_pushed blocks block numbers text middle rest h k are =
-    let j : BeginsWithLines (block_lines blocks ++ line_with (codes "block") numbers ∷ []) text rest = lines_joined _ _ text middle rest h k in
-    let e : block_lines blocks ++ line_with (codes "block") numbers ∷ [] ≡ block_lines (blocks ++ block ∷ []) =
-    ap (λ ns. block_lines blocks ++ line_with (codes "block") ns ∷ []) are ∙ sym (block_lines_push blocks block) in
+    let j : BeginsWithLines (block_lines 1 blocks ++ line_with (codes "block") numbers ∷ []) text rest = lines_joined _ _ text middle rest h k in
+    let e : block_lines 1 blocks ++ line_with (codes "block") numbers ∷ [] ≡ block_lines 1 (blocks ++ block ∷ []) =
+    ap (λ ns. block_lines 1 blocks ++ line_with (codes "block") ns ∷ []) are ∙ sym (block_lines_push blocks block) in
     subst (λ (ls : List CertLine). BeginsWithLines ls text rest) e j
 
-pub cut_pushed : (cuts : List Cut) (cut : Cut) (numbers : List ℤ) (text middle rest : List ℕ) →
-    BeginsWithCuts cuts text middle → BeginsWithLines (line_with (codes "cut") numbers ∷ []) middle rest →
-    IsLineOfCut cut numbers → BeginsWithCuts (cuts ++ cut ∷ []) text rest
-cut_pushed cuts cut numbers text middle rest h k is =
+pub cut_pushed : (count : ℕ) (cuts : List Cut) (cut : Cut) (numbers : List ℤ) (text middle rest : List ℕ) →
+    BeginsWithCuts count cuts text middle → BeginsWithLines (line_with (codes "cut") numbers ∷ []) middle rest →
+    IsLineOfCut cut numbers → BeginsWithCuts (count + 1) (cuts ++ cut ∷ []) text rest
+cut_pushed count cuts cut numbers text middle rest h k is =
     let j : BeginsWithLines (map cut_line cuts ++ line_with (codes "cut") numbers ∷ []) text rest = lines_joined _ _ text middle rest h.lines k in
     let e : map cut_line cuts ++ line_with (codes "cut") numbers ∷ [] ≡ map cut_line (cuts ++ cut ∷ []) =
     ap (λ ns. map cut_line cuts ++ line_with (codes "cut") ns ∷ []) is.numbers_are ∙ sym (map-append cut_line cuts (cut ∷ [])) in
     record {
       lines = subst (λ (ls : List CertLine). BeginsWithLines ls text rest) e j;
+      many = let m : length cuts ≡ count = h.many in omega (arith, length-append cuts (cut ∷ []));
       fit = all_joined IsFitCut cuts (cut ∷ []) h.fit (is.fit, tt);
     }
 
@@ -76,47 +76,27 @@ pair_pushed count es i z numbers middle rest h are below = record {
   indexes = below_push (2 ^ 32) es i z h.indexes below;
 }
 
--- a sparse list behind its count
-pub list_taken : (count : ℕ) (es : List (ℕ × ℤ)) (numbers behind rest : List ℤ) → numbers ≡ pos count ∷ behind →
-    BeginsWithPairs count es behind rest → IsSparse es → BeginsWithList es numbers rest
-list_taken count es numbers behind rest are h sparse = record {
-  laid_out = are ∙ ap (λ t. pos count ∷ t) h.laid_out ∙ ap (λ n. pos n ∷ pair_numbers es ++ rest) (sym h.many);
-  list = record { sparse = sparse; indexes = h.indexes };
-}
-
--- two lists, and nothing behind them
-pub lists_taken : (first second : List (ℕ × ℤ)) (numbers middle rest : List ℤ) → BeginsWithList first numbers middle →
-    BeginsWithList second middle rest → length rest ≡ 0 → AreTwoLists first second numbers
-lists_taken first second numbers middle [] h k none = record {
-  laid_out = h.laid_out ∙ ap (λ t. sparse_numbers first ++ t) (k.laid_out ∙ append-nil _);
-  first_list = h.list;
-  second_list = k.list;
-}
-lists_taken first second numbers middle (x ∷ xs) h k none = absurd (omega arith)
-
 cuts_fit : (cuts : List Cut) → AllByRecursion IsFitCut cuts →
     AllByRecursion (λ cut. (cut.block < 2 ^ 32) × IsSparseList cut.alpha × IsSparseList cut.mu) cuts
 cuts_fit [] h = tt
 cuts_fit (cut ∷ cuts) h = ((h.0.block, h.0.alpha, h.0.mu), cuts_fit cuts h.1)
 
 pub cert_is : (c : Certificate) (count : ℕ) (text r1 r2 r3 r4 r5 : List ℕ) → BeginsWithLines first_lines text r1 →
-    BeginsWithLines (master_lines c.parts.master) r1 r2 → BeginsWithLines (block_lines c.parts.blocks) r2 r3 →
-    BeginsWithLines (value_lines c.value count) r3 r4 → count ≤ 65535 →
-    BeginsWithCuts c.cuts r4 r5 → length c.cuts ≡ count → BeginsWithLines (leaf_lines c.tree) r5 [] →
-    IsSparseList c.tree.lambda → IsCertText text c
-cert_is c count text r1 r2 r3 r4 r5 first master blocks value few cuts many leaf list =
+    BeginsWithLines (master_lines c.parts.master) r1 r2 → BeginsWithBlocks 1 c.parts.blocks r2 r3 →
+    BeginsWithValue c.value count r3 r4 → BeginsWithCuts count c.cuts r4 r5 → IsTextOfLeaf r5 c.tree → IsCertText text c
+cert_is c count text r1 r2 r3 r4 r5 first master blocks value cuts leaf =
     let v : BeginsWithLines (value_lines c.value (length c.cuts)) r3 r4 =
-    subst (λ (n : ℕ). BeginsWithLines (value_lines c.value n) r3 r4) (sym many) value in
+    subst (λ (n : ℕ). BeginsWithLines (value_lines c.value n) r3 r4) (sym cuts.many) value.lines in
     let ls : BeginsWithLines (cert_lines c) text [] =
     lines_joined first_lines _ text r1 [] first (lines_joined (master_lines c.parts.master) _ r1 r2 [] master
-    (lines_joined (block_lines c.parts.blocks) _ r2 r3 [] blocks (lines_joined (value_lines c.value (length c.cuts)) _ r3 r4 [] v
-    (lines_joined (map cut_line c.cuts) (leaf_lines c.tree) r4 r5 [] cuts.lines leaf)))) in
+    (lines_joined (block_lines 1 c.parts.blocks) _ r2 r3 [] blocks.lines (lines_joined (value_lines c.value (length c.cuts)) _ r3 r4 [] v
+    (lines_joined (map cut_line c.cuts) (leaf_lines c.tree) r4 r5 [] cuts.lines leaf.lines)))) in
     record {
       laid_out = ls.laid_out ∙ append-nil _;
       small = ls.small;
       cuts = cuts_fit c.cuts cuts.fit;
-      few = rw many few;
-      leaf = list;
+      few = rw cuts.many value.few;
+      leaf = leaf.list;
     }
 
 -- one more number behind those of a text

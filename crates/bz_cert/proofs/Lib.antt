@@ -1,1 +1,4 @@
 pub mod CertLines
+pub mod NumberTexts
+pub mod Readings
+pub mod SparseLists

@@ -1,5 +1,5 @@
 -- What stands at the front of a certificate's text.
-use Rattle.std.specs.Prelude.{ℕ, ℤ, pos, ◌≡◌, ◌<◌, ◌^◌, List, [], ◌∷◌, ◌++◌, length, map, codes}
+use Rattle.std.specs.Prelude.{ℕ, ℤ, pos, ◌≡◌, ◌<◌, ◌≤◌, ◌^◌, List, [], ◌∷◌, ◌++◌, length, map, codes}
 use Rattle.std.specs.Fmt.{signed_decimal}
 use Rattle.std.specs.Int.RustNames.{unsigned_abs}
 use Rattle.std.specs.List.{AllByRecursion, enumerate_from, flat_map}
@@ -13,6 +13,11 @@ use Rattle.bz_cert.specs.CertText.{CertLine, bytes_of, block_line, cut_line, spa
 -- the number is below 10 ^ 18 in size
 abbrev pub IsSmall : ℤ → Type 0
 IsSmall n = unsigned_abs n < 10 ^ 18
+
+-- the bytes begin with that byte, where there are some
+abbrev pub BeginsWith : ℕ → List ℕ → Type 0
+BeginsWith byte [] = Unit {0}
+BeginsWith byte (b ∷ bs) = b ≡ byte
 
 -- the bytes are those of the numbers, each behind one blank
 pub record AreNumbers (bytes : List ℕ) (numbers : List ℤ) : Type 0 where
@@ -82,11 +87,28 @@ abbrev pub leaf_lines : Leaf → List CertLine
 leaf_lines leaf =
     line_with (codes "leaf") (leaf.delta ∷ leaf.bound ∷ sparse_numbers leaf.lambda) ∷ line_with (codes "end") [] ∷ []
 
--- the lines of blocks, numbered from 1
-abbrev pub block_lines : List BlockPart → List CertLine
-block_lines blocks = map block_line (enumerate_from 1 blocks)
+-- the lines of blocks, numbered from the first number on
+abbrev pub block_lines : ℕ → List BlockPart → List CertLine
+block_lines first blocks = map block_line (enumerate_from first blocks)
 
--- the text is the lines of fit cuts, and the rest behind them
-pub record BeginsWithCuts (cuts : List Cut) (text rest : List ℕ) : Type 0 where
+-- the text is the lines of blocks, numbered from the first number on, and the rest behind them, which does not begin
+-- with one more
+pub record BeginsWithBlocks (first : ℕ) (blocks : List BlockPart) (text rest : List ℕ) : Type 0 where
+  pub lines : BeginsWithLines (block_lines first blocks) text rest
+  pub last : (behind : List ℕ) → rest ≡ codes "block " ++ behind → ⊥
+
+-- the text is the lines of a value and of a number of cuts that a certificate may have, and the rest behind them
+pub record BeginsWithValue (value : ℤ) (cuts : ℕ) (text rest : List ℕ) : Type 0 where
+  pub lines : BeginsWithLines (value_lines value cuts) text rest
+  pub few : cuts ≤ 65535
+
+-- the text is the lines of a leaf and the last line
+pub record IsTextOfLeaf (text : List ℕ) (leaf : Leaf) : Type 0 where
+  pub lines : BeginsWithLines (leaf_lines leaf) text []
+  pub list : IsSparseList leaf.lambda
+
+-- the text is the lines of so many fit cuts, and the rest behind them
+pub record BeginsWithCuts (count : ℕ) (cuts : List Cut) (text rest : List ℕ) : Type 0 where
   pub lines : BeginsWithLines (map cut_line cuts) text rest
+  pub many : length cuts ≡ count
   pub fit : AllByRecursion IsFitCut cuts

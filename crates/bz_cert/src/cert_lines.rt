@@ -1,7 +1,8 @@
 //! The lines of a certificate's text.
-ghost use Rattle.std.specs.Prelude.{ℕ, ◌≡◌, ◌==◌, IfNone, IfOk, IfSome, List, [], ◌∷◌, ◌++◌, ◌<◌, ◌≤◌, length, take, drop};
-ghost use Rattle.std.specs.List.{position_or_len};
-ghost use Rattle.bz_cert.specs.CertReading.{AreNumbers, BeginsWithLines, line_with};
+ghost use Rattle.std.specs.Prelude.{ℕ, ℤ, ◌≡◌, ◌≢◌, ◌==◌, false, IfNone, IfOk, IfSome, List, [], ◌∷◌, ◌++◌, ◌<◌, ◌≤◌, length};
+ghost use Rattle.std.specs.List.{AllByRecursion, list_any, position_or_len};
+ghost use Rattle.bz_lines.specs.Reading.{ReadsAs};
+ghost use Rattle.bz_cert.specs.CertReading.{AreNumbers, BeginsWith, BeginsWithLines, line_with};
 
 use bz_lines::{FormStop, small_number};
 use std::alloc::Global;
@@ -21,15 +22,15 @@ fn place_of(text: &[u8], byte: u8) -> usize
 
 /// The text before the first such byte, and the text from there on.
 fn cut_at(text: &[u8], byte: u8) -> (&[u8], &[u8])
-    ensures front { result.0.now ≡ take (position_or_len (λ b. b == byte) text.now) text.now }
-    ensures back { result.1.now ≡ drop (position_or_len (λ b. b == byte) text.now) text.now }
     ensures joined { text.now ≡ result.0.now ++ result.1.now }
+    ensures before { AllByRecursion (λ b. b ≢ byte) result.0.now }
+    ensures from_there { BeginsWith byte result.1.now }
 {
     text.split_at(place_of(text, byte))
 }
 
 /// What stands behind the front, where the text begins with it.
-fn text_behind<'a>(text: &'a [u8], front: &[u8]) -> Option<&'a [u8]>
+pub(crate) fn text_behind<'a>(text: &'a [u8], front: &[u8]) -> Option<&'a [u8]>
     ensures found { IfSome result (λ behind. text.now ≡ front.now ++ behind.now) }
     ensures none { IfNone result ((behind : List ℕ) → text.now ≡ front.now ++ behind → ⊥) }
 {
@@ -38,7 +39,7 @@ fn text_behind<'a>(text: &'a [u8], front: &[u8]) -> Option<&'a [u8]>
 
 /// The numbers of a text, each behind one blank.
 fn numbers_in(alloc: Global, text: &[u8]) -> Result<Vec<i128>, FormStop>
-    ensures { IfOk result (λ v. AreNumbers text.now v.items) }
+    ensures { ReadsAs (λ v. v.items) (AreNumbers text.now) result }
 {
     let mut numbers = Vec::new(alloc);
     let mut rest = text;
@@ -63,7 +64,8 @@ pub(crate) fn read_line<'a>(
     text: &'a [u8],
     word: &[u8],
 ) -> Result<(Vec<i128>, &'a [u8]), FormStop>
-    ensures line { IfOk result (λ r. BeginsWithLines (line_with word.now r.0.items ∷ []) text.now r.1.now) }
+    requires { list_any (λ b. b == 10) word.now ≡ false }
+    ensures line { ReadsAs {Y = List ℤ × List ℕ} (λ r. (r.0.items, r.1.now)) (λ r. BeginsWithLines (line_with word.now r.0 ∷ []) text.now r.1) result }
     ensures shorter { IfOk result (λ r. length r.1.now < length text.now) }
 {
     let (line, from_feed) = cut_at(text, b'\n');
@@ -75,4 +77,31 @@ pub(crate) fn read_line<'a>(
     };
     let numbers = numbers_in(alloc, behind)?;
     Ok((numbers, rest))
+}
+
+/// The number, where there is one alone.
+fn only(numbers: &[i128]) -> Option<i128>
+    ensures alone { IfSome result (λ number. numbers.now ≡ number ∷ []) }
+    ensures none { IfNone result ((number : ℤ) → numbers.now ≡ number ∷ [] → ⊥) }
+{
+    match numbers {
+        [number] => Some(*number),
+        _ => None,
+    }
+}
+
+/// The number of the text's first line, which is the word and that number, and the text behind the line.
+pub(crate) fn read_number<'a>(
+    alloc: Global,
+    text: &'a [u8],
+    word: &[u8],
+) -> Result<(i128, &'a [u8]), FormStop>
+    requires { list_any (λ b. b == 10) word.now ≡ false }
+    ensures { ReadsAs {Y = ℤ × List ℕ} (λ r. (r.0, r.1.now)) (λ r. BeginsWithLines (line_with word.now (r.0 ∷ []) ∷ []) text.now r.1) result }
+{
+    let (numbers, rest) = read_line(alloc, text, word)?;
+    match only(numbers.as_slice()) {
+        Some(number) => Ok((number, rest)),
+        None => Err(FormStop::Outside),
+    }
 }

@@ -1,5 +1,6 @@
 //! Records from the numbers of a certificate's lines.
-ghost use Rattle.std.specs.Prelude.{◌≡◌, ◌∷◌, ◌↔◌, ◌<◌, ◌^◌, pos, IfOk, IfSome, IsTrue};
+ghost use Rattle.std.specs.Prelude.{ℕ, ℤ, List, ◌≡◌, ◌∷◌, ◌↔◌, ◌<◌, ◌^◌, pos, IfNone, IfSome, IsTrue};
+ghost use Rattle.bz_lines.specs.Reading.{Reads, ReadsAs};
 ghost use Rattle.bz_num.specs.Row.{IsSparse};
 ghost use Rattle.bz_cert.specs.CertReading.{AreTwoLists, BeginsWithList, BeginsWithPairs, IsLineOfCut, IsLineOfLeaf};
 
@@ -27,6 +28,7 @@ fn is_sparse(entries: &[(u32, i128)]) -> bool
 fn take_pair(numbers: &[i128]) -> Option<(u32, i128, &[i128])>
     ensures pair { IfSome result (λ r. numbers.now ≡ pos r.0 ∷ r.1 ∷ r.2.now) }
     ensures index { IfSome result (λ r. r.0 < 2 ^ 32) }
+    ensures none { IfNone result ((i : ℕ) (z : ℤ) (behind : List ℤ) → numbers.now ≡ pos i ∷ z ∷ behind → i < 2 ^ 32 → ⊥) }
 {
     let [index, number, behind @ ..] = numbers else {
         return None;
@@ -43,7 +45,7 @@ fn take_pairs(
     count: usize,
     numbers: &[i128],
 ) -> Result<(Vec<(u32, i128)>, &[i128]), FormStop>
-    ensures { IfOk result (λ r. BeginsWithPairs count r.0.items numbers.now r.1.now) }
+    ensures { ReadsAs {Y = List (ℕ × ℤ) × List ℤ} (λ r. (r.0.items, r.1.now)) (λ r. BeginsWithPairs count r.0 numbers.now r.1) result }
 {
     let mut pairs = Vec::new(alloc);
     let mut rest = numbers;
@@ -57,14 +59,25 @@ fn take_pairs(
     Ok((pairs, rest))
 }
 
-/// The pairs of a sparse list, which stands behind their count, and the numbers behind them.
-fn take_list(alloc: Global, numbers: &[i128]) -> Result<(Vec<(u32, i128)>, &[i128]), FormStop>
-    ensures { IfOk result (λ r. BeginsWithList r.0.items numbers.now r.1.now) }
+/// The count in front, and the numbers behind it.
+fn take_count(numbers: &[i128]) -> Option<(usize, &[i128])>
+    ensures count { IfSome result (λ r. numbers.now ≡ pos r.0 ∷ r.1.now) }
+    ensures none { IfNone result ((count : ℕ) (behind : List ℤ) → numbers.now ≡ pos count ∷ behind → count < 2 ^ 64 → ⊥) }
 {
     let [count, behind @ ..] = numbers else {
-        return Err(FormStop::Outside);
+        return None;
     };
-    let Ok(count) = usize::try_from(*count) else {
+    match usize::try_from(*count) {
+        Ok(count) => Some((count, behind)),
+        Err(_) => None,
+    }
+}
+
+/// The pairs of a sparse list, which stands behind their count, and the numbers behind them.
+fn take_list(alloc: Global, numbers: &[i128]) -> Result<(Vec<(u32, i128)>, &[i128]), FormStop>
+    ensures { ReadsAs {Y = List (ℕ × ℤ) × List ℤ} (λ r. (r.0.items, r.1.now)) (λ r. BeginsWithList r.0 numbers.now r.1) result }
+{
+    let Some((count, behind)) = take_count(numbers) else {
         return Err(FormStop::Outside);
     };
     let (pairs, rest) = take_pairs(alloc, count, behind)?;
@@ -80,7 +93,7 @@ fn two_lists(
     alloc: Global,
     numbers: &[i128],
 ) -> Result<(Vec<(u32, i128)>, Vec<(u32, i128)>), FormStop>
-    ensures { IfOk result (λ r. AreTwoLists r.0.items r.1.items numbers.now) }
+    ensures { ReadsAs {Y = List (ℕ × ℤ) × List (ℕ × ℤ)} (λ r. (r.0.items, r.1.items)) (λ r. AreTwoLists r.0 r.1 numbers.now) result }
 {
     let (first, rest) = take_list(alloc, numbers)?;
     let (second, rest) = take_list(alloc, rest)?;
@@ -93,7 +106,7 @@ fn two_lists(
 
 /// The cut of a line's numbers.
 pub(crate) fn cut_of(alloc: Global, numbers: &[i128]) -> Result<Cut, FormStop>
-    ensures { IfOk result (λ cut. IsLineOfCut cut numbers.now) }
+    ensures { Reads (λ cut. IsLineOfCut cut numbers.now) result }
 {
     let Some((block, p0, behind)) = take_pair(numbers) else {
         return Err(FormStop::Outside);
@@ -114,7 +127,7 @@ pub(crate) fn cut_of(alloc: Global, numbers: &[i128]) -> Result<Cut, FormStop>
 
 /// The leaf of a line's numbers.
 pub(crate) fn leaf_of(alloc: Global, numbers: &[i128]) -> Result<Leaf, FormStop>
-    ensures { IfOk result (λ leaf. IsLineOfLeaf leaf numbers.now) }
+    ensures { Reads (λ leaf. IsLineOfLeaf leaf numbers.now) result }
 {
     let [delta, bound, list @ ..] = numbers else {
         return Err(FormStop::Outside);
@@ -132,7 +145,7 @@ pub(crate) fn leaf_of(alloc: Global, numbers: &[i128]) -> Result<Leaf, FormStop>
 
 /// The part of the block with this number, of a line's numbers.
 pub(crate) fn block_of(alloc: Global, block: usize, numbers: &[i128]) -> Result<BlockPart, FormStop>
-    ensures { IfOk result (λ part. numbers.now ≡ pos block ∷ part.times ∷ part.y) }
+    ensures { Reads (λ part. numbers.now ≡ pos block ∷ part.times ∷ part.y) result }
 {
     let [number, times, y @ ..] = numbers else {
         return Err(FormStop::Outside);

@@ -48,6 +48,19 @@ fn refuses_other_certificates(rt: HostRuntime) {
         b"bzcert 1\nverdict optimal\nmaster 1 1\neta 0\nvalue 1\ncuts 65536\nleaf 1 1 0\nend\n".as_slice(),
         b"bzcert 1\nverdict optimal\nmaster 1000000000000000000\neta 0\nvalue 1\ncuts 0\nleaf 1 1 0\nend\n".as_slice(),
         b"bzcert 1\nverdict optimal\nmaster 1 1\neta 0\nvalue 1\ncuts 0\nleaf 1 1 0\nend\n\n".as_slice(),
+        b"bzcert 1\n\nverdict optimal\nmaster 1 1\neta 0\nvalue 1\ncuts 0\nleaf 1 1 0\nend\n".as_slice(),
+        b"bzcert 1\nverdict infeasible\nmaster 1 1\neta 0\nvalue 1\ncuts 0\nleaf 1 1 0\nend\n".as_slice(),
+        b"bzcert 1\nverdict optimal\nmaster 1 1\nvalue 1\ncuts 0\nleaf 1 1 0\nend\n".as_slice(),
+        b"bzcert 1\nverdict optimal\nmaster 1\t1\neta 0\nvalue 1\ncuts 0\nleaf 1 1 0\nend\n".as_slice(),
+        b"bzcert 1\r\nverdict optimal\nmaster 1 1\neta 0\nvalue 1\ncuts 0\nleaf 1 1 0\nend\n".as_slice(),
+        b"bzcert 1\nverdict optimal\nmaster 1 -1000000000000000000\neta 0\nvalue 1\ncuts 0\nleaf 1 1 0\nend\n".as_slice(),
+        b"bzcert 1\nverdict optimal\nmaster 1 1\neta 0\nvalue 1\ncuts 0\nleaf 1 1 1 -1 5\nend\n".as_slice(),
+        b"bzcert 1\nverdict optimal\nmaster 1 1\neta 0\nvalue 1\ncuts 0\nleaf 1 1 1 4294967296 5\nend\n".as_slice(),
+        b"bzcert 1\nverdict optimal\nmaster 1 1\neta 0\nvalue 1\ncuts 0\nleaf 1 1 1 1 5 2 6\nend\n".as_slice(),
+        b"bzcert 1\nverdict optimal\nmaster 1 1\neta 0\nvalue 1\ncuts 0\nleaf 1 1 2 1 5\nend\n".as_slice(),
+        b"bzcert 1\nverdict optimal\nmaster 1 1\neta 0\nvalue 1\ncuts 0\nleaf 1 1 2 2 5 1 6\nend\n".as_slice(),
+        b"bzcert 1\nverdict optimal\nmaster 1 1\neta 0\nvalue 1\ncuts 1\ncut 4294967296 0 0 1 0 0\nleaf 1 1 0\nend\n".as_slice(),
+        b"bzcert 1\nverdict optimal\nmaster\neta 0\nvalue 1\ncuts 0\nleaf 1 1 0\nend\n".as_slice(),
     ] {
         match read_cert(rt.alloc(), text) {
             Ok(_) => assert!(rt; false),
@@ -61,4 +74,23 @@ fn reads_a_certificate_of_many(rt: HostRuntime) {
     let text =
         b"bzcert 1\nverdict optimal\nmaster 2 1 -3\neta 0 5\nblock 1 1\nblock 2 3 -999999999999999999\nvalue 0\ncuts 2\ncut 2 0 0 1 0 0\ncut 1 1 1 1 2 0 1 7 -1 0\nleaf 1 1 0\nend\n";
     assert!(rt; read_cert(rt.alloc(), text).is_ok());
+}
+
+#[test]
+fn reads_a_cut_of_a_block_that_is_not_there(rt: HostRuntime) {
+    let text =
+        b"bzcert 1\nverdict optimal\nmaster 1\neta\nvalue -999999999999999999\ncuts 1\ncut 2 0 0 1 1 4294967295 -7 0\nleaf 0 0 0\nend\n";
+    let read = read_cert(rt.alloc(), text);
+    assert!(rt; read.is_ok());
+    if let Ok(c) = read {
+        assert_eq!(rt;
+            (c.value, c.parts.master.x.as_slice().len()),
+            (-999999999999999999, 0)
+        );
+        assert_eq!(rt; c.cuts.as_slice().len(), 1);
+        for cut in c.cuts.as_slice() {
+            assert_eq!(rt; cut.block, 2);
+            assert_eq!(rt; cut.alpha.as_slice(), [(4294967295, -7)].as_slice());
+        }
+    }
 }

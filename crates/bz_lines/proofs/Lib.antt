@@ -2,5 +2,6 @@ pub mod BeforeLemmas
 pub mod FieldLemmas
 pub mod ListLemmas
 pub mod NameLemmas
+pub mod Refusals
 pub mod SmallNumbers
 pub mod TextLines

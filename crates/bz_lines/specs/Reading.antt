@@ -3,9 +3,18 @@ use Rattle.std.specs.Prelude.{Result, Ok, Err}
 use Rattle.bz_lines.specs.declared.form.FormStop.{FormStop}
 use Rattle.bz_lines.specs.declared.form.FormStop.TheVariants.{Outside, OutOfMemory}
 
+-- A text is outside of its form exactly where it says nothing; want of memory tells nothing of it.
+abbrev pub Refuses : {X : Type 0} → (X → Type 0) → FormStop → Type 0
+Refuses {X} Says Outside = (x : X) → Says x → ⊥
+Refuses Says OutOfMemory = Unit {0}
+
 -- The reader answers something that the text says, and refuses the text as one outside of its form exactly where the
 -- text says nothing. `Says` is what it is for the text to say x.
 abbrev pub Reads : {X : Type 0} → (X → Type 0) → Result X FormStop → Type 0
 Reads Says (Ok x) = Says x
-Reads {X} Says (Err Outside) = (x : X) → Says x → ⊥
-Reads Says (Err OutOfMemory) = Unit {0}
+Reads Says (Err stop) = Refuses Says stop
+
+-- The same of a reader whose answer is seen through `view`, as a vector is seen as the list of its items.
+abbrev pub ReadsAs : {X Y : Type 0} → (X → Y) → (Y → Type 0) → Result X FormStop → Type 0
+ReadsAs view Says (Ok x) = Says (view x)
+ReadsAs view Says (Err stop) = Refuses Says stop

@@ -13,6 +13,9 @@ pub enum FormStop {
 impl From<AllocError> for FormStop {
     ghost use Rattle.std.specs.Prelude.{◌≡◌};
     ghost use Rattle.bz_lines.specs.declared.form.FormStop.{FormStop};
+    ghost use Rattle.bz_lines.specs.declared.form.FormStop.TheVariants.{OutOfMemory};
+
+    ghost from_gives = { λ _ e. e ≡ OutOfMemory };
 
     fn from(_error: AllocError) -> FormStop {
         FormStop::OutOfMemory

@@ -1,14 +1,14 @@
 //! Texts by lines, lines by fields, names and small numbers.
 #![tactic(auto)]
 
+mod cutting;
 mod form;
 mod names;
 mod number;
 mod text_fields;
-mod cutting;
 
+pub use cutting::{fields, is_blank, is_plain, text_lines};
 pub use form::FormStop;
 pub use names::{Added, Names};
 pub use number::small_number;
 pub use text_fields::Fields;
-pub use cutting::{fields, is_blank, is_plain, text_lines};
