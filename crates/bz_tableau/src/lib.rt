@@ -14,8 +14,10 @@ mod steps;
 mod tableau;
 
 pub use answers::{Answer, LpStop, Vals, WideAt};
+pub use division::quotient;
 pub use laws::tableau_has_rows_of_basis;
 pub use programs::{Lp, LpRow};
+pub use reducing::{common_divisor, divide_all};
 pub use tableau::Tableau;
 
 #[cfg(test)]

@@ -1,0 +1,11 @@
+pub mod BasicValues
+pub mod LeastMultiples
+pub mod Moves
+pub mod Outcomes
+pub mod PointSigns
+pub mod RaySigns
+pub mod RisingOrders
+pub mod ShownAnswers
+pub mod ShownBases
+pub mod StaysTableau
+pub mod Wholes

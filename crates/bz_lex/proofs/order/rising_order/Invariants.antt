@@ -1,0 +1,7 @@
+use Rattle.std.specs.Prelude.{length}
+use Rattle.bz_tableau.specs.Laws.{place}
+use Rattle.bz_lex.specs.Refusals.{IsRisingOrder}
+use Rattle.bz_lex.proofs.order.rising_order.Given as goal
+
+abbrev pub invariant-loop-j : goal.invariant-loop-j
+invariant-loop-j l = IsRisingOrder (length l.basis) l.j (place l.basis) l.order.items

@@ -1,0 +1,4 @@
+pub mod Answers
+pub mod Points
+pub mod Refusals
+pub mod Shown

@@ -1,0 +1,33 @@
+//! The basic columns before the slacks, in rising order.
+ghost use Rattle.std.specs.Prelude.{◌≡◌, ◌≢◌, ◌<◌, ◌^◌, ℕ, IfOk, MatchOption, length};
+ghost use Rattle.bz_tableau.specs.Laws.{place};
+ghost use Rattle.bz_lex.specs.Refusals.{IsRisingOrder};
+
+use std::alloc::{AllocError, Global};
+
+// The place of a column in the basis.
+fn place_of(basis: &[u32], column: u32) -> Option<usize>
+    ensures { MatchOption result ((i : ℕ) → i < length basis.now → place basis.now i ≢ column) (λ i. (i < length basis.now) × (place basis.now i ≡ column)) }
+{
+    for i in 0..basis.len() {
+        if basis[i] == column {
+            return Some(i);
+        }
+    }
+    None
+}
+
+/// The places of the basis whose columns are before the slacks, in the rising order of the columns.
+pub fn rising_order(alloc: Global, basis: &[u32], slack: u32) -> Result<Vec<u32>, AllocError>
+    requires few { length basis.now < 2 ^ 31 }
+    ensures { IfOk result (λ order. IsRisingOrder (length basis.now) slack (place basis.now) order.items) }
+{
+    let mut order = Vec::new(alloc);
+    for j in 0..slack {
+        let Some(i) = place_of(basis, j) else {
+            continue;
+        };
+        order.push(i as u32)?;
+    }
+    Ok(order)
+}
