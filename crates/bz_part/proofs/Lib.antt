@@ -1,2 +1,3 @@
+pub mod NoParts
 pub mod PartLemmas
 pub mod StrictLemmas

@@ -10,6 +10,11 @@ use Rattle.bz_lines.specs.NameLists.{is_among}
 abbrev pub kept_fields : List (List ℕ) → List (List (List ℕ))
 kept_fields ls = map (λ l. l.fields) (lines_with_fields ls)
 
+-- the lines of the text are plain, and the fields of those that have some are these
+pub record ArePlainFields (text : List ℕ) (kept : List (List (List ℕ))) : Type 0 where
+  pub plain : AllByRecursion IsPlain (lines text)
+  pub kept_are : kept ≡ kept_fields (lines text)
+
 -- the fields of the first line
 abbrev pub first_fields : List (List ℕ)
 first_fields = codes "cpxBendersPartition" ∷ codes "1" ∷ []

@@ -1,12 +1,12 @@
 //! The lines of a partition's text.
 ghost use Rattle.std.specs.Prelude.{ℕ, List, ◌≡◌, ◌∷◌, [], ◌↔◌, IfNone, IfOk, IfSome, IsTrue, map};
 ghost use Rattle.std.specs.List.{AllByRecursion};
-ghost use Rattle.std.specs.Str.Lines.{lines};
 ghost use Rattle.bz_lines.specs.Lines.{IsPlain};
-ghost use Rattle.bz_part.specs.PartReading.{AreNames, first_fields, kept_fields, name_fields};
+ghost use Rattle.bz_lines.specs.Reading.{Reads, ReadsAs};
+ghost use Rattle.bz_part.specs.PartReading.{AreNames, ArePlainFields, first_fields, kept_fields, name_fields};
 
 use bz_lines::{Fields, FormStop, Names, is_plain, text_lines};
-use std::alloc::Global;
+use std::alloc::{AllocError, Global};
 
 /// Whether each line is no comment and has no byte below 32 but tabs.
 fn are_plain(lines: &[&[u8]]) -> bool
@@ -21,7 +21,7 @@ fn are_plain(lines: &[&[u8]]) -> bool
 }
 
 /// The fields of each line that has some.
-fn fields_of_lines<'a>(alloc: Global, lines: &[&'a [u8]]) -> Result<Vec<Fields<'a>>, FormStop>
+fn fields_of_lines<'a>(alloc: Global, lines: &[&'a [u8]]) -> Result<Vec<Fields<'a>>, AllocError>
     ensures { IfOk result (λ kept. kept.items ≡ kept_fields (map (λ l. l.now) lines.now)) }
 {
     let mut kept = Vec::new(alloc);
@@ -36,14 +36,14 @@ fn fields_of_lines<'a>(alloc: Global, lines: &[&'a [u8]]) -> Result<Vec<Fields<'
 
 /// The fields of each line of a plain text that has some.
 pub(crate) fn plain_lines<'a>(alloc: Global, text: &'a [u8]) -> Result<Vec<Fields<'a>>, FormStop>
-    ensures plain { IfOk result (λ kept. AllByRecursion IsPlain (lines text.now)) }
-    ensures kept { IfOk result (λ kept. kept.items ≡ kept_fields (lines text.now)) }
+    ensures { ReadsAs (λ kept. kept.items) (ArePlainFields text.now) result }
 {
     let found = text_lines(alloc, text)?;
     if !are_plain(found.as_slice()) {
         return Err(FormStop::Outside);
     }
-    fields_of_lines(alloc, found.as_slice())
+    let kept = fields_of_lines(alloc, found.as_slice())?;
+    Ok(kept)
 }
 
 /// The two fields, where there are two.
@@ -71,7 +71,8 @@ pub(crate) fn is_first_line(fields: &Fields) -> bool
 
 /// The name of a column's line.
 fn name_on<'a>(fields: &Fields<'a>) -> Option<&'a [u8]>
-    ensures { IfSome result (λ name. fields.now ≡ name_fields name.now) }
+    ensures name { IfSome result (λ name. fields.now ≡ name_fields name.now) }
+    ensures none { IfNone result ((name : List ℕ) → fields.now ≡ name_fields name → ⊥) }
 {
     let (name, part) = two_fields(fields)?;
     if part == b"0".as_slice() {
@@ -87,7 +88,7 @@ pub(crate) fn names_on<'a>(
     columns: &Names,
     lines: &[Fields<'a>],
 ) -> Result<Names<'a>, FormStop>
-    ensures { IfOk result (λ names. AreNames columns.now names lines.now) }
+    ensures { Reads (λ names. AreNames columns.now names lines.now) result }
 {
     let mut names = Names::new(alloc);
     for fields in lines {

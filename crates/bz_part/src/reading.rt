@@ -2,6 +2,7 @@
 ghost use Rattle.std.specs.Prelude.{ℕ, List, ◌≡◌, ◌<◌, ◌^◌, ◌↔◌, Contains, IfOk, IsTrue, length, map, if◌then◌else◌};
 ghost use Rattle.bz_model.specs.Strict.{HasItsColumns, IsPartition, IsStrict};
 ghost use Rattle.bz_lines.specs.NameLists.{is_among};
+ghost use Rattle.bz_lines.specs.Reading.{Reads, ReadsAs};
 ghost use Rattle.bz_part.specs.PartReading.{IsPartOf};
 ghost use Rattle.bz_part.specs.PartText.{IsPartText};
 
@@ -10,10 +11,10 @@ use crate::strict::is_strict;
 use bz_lines::{FormStop, Names};
 use bz_model::{Column, Model};
 use bz_num::Items;
-use std::alloc::Global;
+use std::alloc::{AllocError, Global};
 
 /// The names of the columns.
-fn column_names(alloc: Global, columns: &[Column]) -> Result<Names<'_>, FormStop>
+fn column_names(alloc: Global, columns: &[Column]) -> Result<Names<'_>, AllocError>
     ensures { IfOk result (λ names. (name : List ℕ) → is_among names name ≡ is_among (map (λ c. c.name) columns.now) name) }
 {
     let mut names = Names::new(alloc);
@@ -24,7 +25,7 @@ fn column_names(alloc: Global, columns: &[Column]) -> Result<Names<'_>, FormStop
 }
 
 /// The part of each column: the master for the named ones, and block 1 for the others.
-fn parts_by(alloc: Global, columns: &[Column], named: &Names) -> Result<Vec<u32>, FormStop>
+fn parts_by(alloc: Global, columns: &[Column], named: &Names) -> Result<Vec<u32>, AllocError>
     ensures { IfOk result (λ part. part.items ≡ map (λ c. (if is_among named.now c.name then 0 else 1)) columns.now) }
 {
     let mut part = Vec::new(alloc);
@@ -47,7 +48,7 @@ fn has_block(part: &[u32]) -> bool
 
 /// The part of each column, of a text that puts the columns that it names into the master and the others into block 1.
 fn read_columns(alloc: Global, text: &[u8], columns: &[Column]) -> Result<Vec<u32>, FormStop>
-    ensures { IfOk result (λ part. IsPartOf text.now columns.now part.items) }
+    ensures { ReadsAs (λ part. part.items) (IsPartOf text.now columns.now) result }
 {
     let lines = plain_lines(alloc, text)?;
     let [first, others @ ..] = lines.as_slice() else {
@@ -67,12 +68,11 @@ fn read_columns(alloc: Global, text: &[u8], columns: &[Column]) -> Result<Vec<u3
 }
 
 /// The partition of a text, which puts the columns that it names into the master and the others into block 1, and by
-/// which the model may be solved. `Outside` is of a text of another form.
+/// which the model may be solved. `Outside` is exactly of a text that says no such partition.
 pub fn read_part(alloc: Global, text: &[u8], model: &Model) -> Result<Items<u32>, FormStop>
     requires columns { HasItsColumns model.now }
-    ensures reads { IfOk result (IsPartText text.now model.now) }
+    ensures reads { Reads (λ part. IsPartText text.now model.now part × IsStrict model.now part) result }
     ensures partition { IfOk result (IsPartition model.now) }
-    ensures strict { IfOk result (IsStrict model.now) }
 {
     let part = read_columns(alloc, text, model.columns.as_slice())?;
     if is_strict(model, part.as_slice()) {

@@ -6,8 +6,8 @@ ghost use Rattle.bz_algebra.specs.Numbers.{IsNarrow};
 ghost use Rattle.bz_algebra.specs.Sums.{AllBelow};
 ghost use Rattle.bz_model.specs.Strict.{HasItsColumns};
 
-use bz_lines::FormStop;
 use crate::reading::read_part;
+use bz_lines::FormStop;
 use bz_model::{Column, Model, Row};
 use bz_num::{Frac, Items, Name, SparseRow};
 use std::alloc::Global;
