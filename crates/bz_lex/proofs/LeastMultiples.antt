@@ -1,5 +1,5 @@
 -- Least common multiples of two numbers and of many.
-use Rattle.std.specs.Prelude.{ℕ, zero, suc, ◌+◌, ◌*◌, ◌/◌, ◌<◌, ◌≤◌, ◌^◌, ◌≡◌, ◌≢◌, ℤ, pos, negsuc, ◌+ℤ◌, ◌*ℤ◌, ◌≤ℤ◌, ◌<ℤ◌, unsigned_abs, Option, None, Some, SomeIff, MatchOption}
+use Rattle.std.specs.Prelude.{ℕ, suc, ◌+◌, ◌/◌, ◌<◌, ◌≤◌, ◌^◌, ◌≡◌, ◌≢◌, ℤ, pos, negsuc, ◌+ℤ◌, ◌*ℤ◌, ◌<ℤ◌, unsigned_abs, Option, None, Some, SomeIff, MatchOption}
 use Rattle.std.specs.Int.{◌∣◌, IsGcd}
 use Rattle.std.proofs.Common.{refl, ap, sym, subst, ◌∙◌, arith, inl, inr}
 use Rattle.std.proofs.lemmas.Bool.{cases_eq}
@@ -8,10 +8,10 @@ use Rattle.std.proofs.lemmas.Nat.Gcd.{dvd_trans, le_of_dvd, dvd_antisymm}
 use Rattle.std.proofs.Math.IntN.{*ℤ_comm}
 use Rattle.std.proofs.Math.Nat.{mul-div_cancel', dvd-mul_right, one-dvd}
 use Rattle.bz_algebra.specs.Numbers.{IsNarrow, IsWide}
-use Rattle.bz_algebra.proofs.Bounded.{by_lt, below_suc}
+use Rattle.bz_algebra.proofs.Bounded.{by_lt}
 use Rattle.bz_algebra.proofs.Divisors.{Bezout, bezout, divides_multiple}
-use Rattle.bz_algebra.proofs.Ring.{*ℤ_assoc, mul_add, mul_left, mul_zero, mul_positive, cancel_left, cancel_lt_left, positive-ne, of_nonnegative}
-use Rattle.bz_lex.specs.Shown.{IsMultipleTo, IsLeastTo, IsLeastOfTwo, HasWideMultiple, IsNarrowLeast, IsFirstWideLeast}
+use Rattle.bz_algebra.proofs.Ring.{*ℤ_assoc, mul_add, mul_left, mul_zero, mul_positive, cancel_left, cancel_lt_left, positive-ne}
+use Rattle.bz_lex.specs.Shown.{IsLeastTo, IsLeastOfTwo, HasWideMultiple, IsNarrowLeast, IsFirstWideLeast}
 
 pub positive_is : (a : ℤ) → (pos 0) <ℤ a → pos (unsigned_abs a) ≡ a
 positive_is (pos n) h = refl

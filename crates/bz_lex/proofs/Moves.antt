@@ -1,20 +1,18 @@
 -- Directions made of the values of basic columns.
-use Rattle.std.specs.Prelude.{ℕ, suc, ◌+◌, ◌<◌, ◌≤◌, ◌≡◌, ◌≢◌, ◌⊎◌, ℤ, pos, ◌-ℤ◌, ◌*ℤ◌, neg_ℤ, ◌≤ℤ◌, ◌<ℤ◌, List, length, unsigned_abs}
+use Rattle.std.specs.Prelude.{ℕ, ◌<◌, ◌≤◌, ◌≡◌, ◌≢◌, ℤ, pos, ◌-ℤ◌, ◌*ℤ◌, neg_ℤ, ◌≤ℤ◌, ◌<ℤ◌, List, length, unsigned_abs}
 use Rattle.std.specs.Int.{◌∣◌}
 use Rattle.std.proofs.Common.{refl, ap, sym, subst, ◌∙◌, arith, inl, inr}
-use Rattle.std.proofs.Math.IntN.{*ℤ_comm}
 use Rattle.std.proofs.Math.Nat.{eq-zero_of_zero-dvd}
-use Rattle.std.proofs.lemmas.Bool.{cases_eq}
 use Rattle.std.proofs.lemmas.Int.{ints}
 use Rattle.bz_algebra.proofs.Bounded.{by_order}
-use Rattle.bz_algebra.proofs.Ring.{*ℤ_assoc, mul_neg, mul_zero, one_mul, positive-ne, le_antisym}
-use Rattle.bz_tableau.specs.Dense.{entry, DividesRow, IsDivisorOf, IsDivided}
+use Rattle.bz_algebra.proofs.Ring.{*ℤ_assoc, mul_neg, one_mul, positive-ne, le_antisym}
+use Rattle.bz_tableau.specs.Dense.{entry, IsDivisorOf, IsDivided}
 use Rattle.bz_tableau.specs.Laws.{place}
 use Rattle.bz_tableau.specs.Tables.{Table, shown, factor_column}
 use Rattle.bz_tableau.proofs.Quotients.{zero_from_size}
 use Rattle.bz_tableau.proofs.Reductions.{quotients_primitive}
-use Rattle.bz_lex.specs.Refusals.{at_number, IsRisingOrder}
-use Rattle.bz_lex.specs.Shown.{IsOrderOf, IsShownBasis, IsShownOrder, own_entry, IsOver, IsWideOver, AreValuesTo, IsFirstWideOver, IsNarrowLeast, IsPrimitivePart, IsShownDirection, IsShownMove, IsFirstWideRay, GoesWideAtRay}
+use Rattle.bz_lex.specs.Refusals.{at_number}
+use Rattle.bz_lex.specs.Shown.{IsOrderOf, IsShownBasis, IsShownOrder, own_entry, IsOver, IsWideOver, AreValuesTo, IsFirstWideOver, IsNarrowLeast, IsPrimitivePart, IsShownDirection, IsShownMove, GoesWideAtRay}
 use Rattle.bz_lex.proofs.BasicValues.{not_both}
 
 pub part_divided : (d : ℤ) (old new : List ℤ) → (pos 0) <ℤ d → IsDivisorOf (unsigned_abs d) old → IsDivided d old new → IsPrimitivePart old new
@@ -71,33 +69,65 @@ module _ (t : Table) (order : List ℕ) (den : ℤ) (column : ℕ) (moves raised
 -- ---- where a ray goes wide
 module _ (t : Table) (order : List ℕ) (den : ℤ) (column : ℕ) (is_order : IsShownOrder t order) (b : IsShownBasis t) (narrow : IsNarrowLeast (length order) (own_entry t order) den) where
   pub wide_move : (k : ℕ) (values : List ℤ) → AreValuesTo (length order) t order den (factor_column t) values → IsFirstWideOver (length order) t order (neg_ℤ den) column k → GoesWideAtRay t column k
-  wide_move k values h w = record { order = order; is_order = is_order; wide = inr (den, narrow, record {
-    inside = w.inside;
-    here = inr w.here;
-    first_value = λ l m. none_wide (length order) t order den (factor_column t) values (order_of t order is_order b) h (omega arith) l (omega (arith, w.inside));
-    first_move = w.first;
-  }) }
+  wide_move k values h w = record {
+    order = order;
+    is_order = is_order;
+    wide = inr (
+      den,
+      narrow,
+      record {
+        inside = w.inside;
+        here = inr w.here;
+        first_value = λ l m. none_wide (length order) t order den (factor_column t) values (order_of t order is_order b) h (omega arith) l (omega (arith, w.inside));
+        first_move = w.first;
+      },
+    );
+  }
 
   pub wide_value : (k : ℕ) (d : List ℤ) → IsFirstWideOver (length order) t order den (factor_column t) k → IsShownMove t order den column d → GoesWideAtRay t column k
-  wide_value k d w h = record { order = order; is_order = is_order; wide = inr (den, narrow, record {
-    inside = w.inside;
-    here = inl w.here;
-    first_value = w.first;
-    first_move = λ l m. h.narrow l (omega (arith, w.inside));
-  }) }
+  wide_value k d w h = record {
+    order = order;
+    is_order = is_order;
+    wide = inr (
+      den,
+      narrow,
+      record {
+        inside = w.inside;
+        here = inl w.here;
+        first_value = w.first;
+        first_move = λ l m. h.narrow l (omega (arith, w.inside));
+      },
+    );
+  }
 
   pub wide_first : (k l : ℕ) → k ≤ l → IsFirstWideOver (length order) t order den (factor_column t) k → IsFirstWideOver (length order) t order (neg_ℤ den) column l → GoesWideAtRay t column k
-  wide_first k l c w v = record { order = order; is_order = is_order; wide = inr (den, narrow, record {
-    inside = w.inside;
-    here = inl w.here;
-    first_value = w.first;
-    first_move = λ m i. v.first m (omega arith);
-  }) }
+  wide_first k l c w v = record {
+    order = order;
+    is_order = is_order;
+    wide = inr (
+      den,
+      narrow,
+      record {
+        inside = w.inside;
+        here = inl w.here;
+        first_value = w.first;
+        first_move = λ m i. v.first m (omega arith);
+      },
+    );
+  }
 
   pub wide_second : (k l : ℕ) → l ≤ k → IsFirstWideOver (length order) t order den (factor_column t) k → IsFirstWideOver (length order) t order (neg_ℤ den) column l → GoesWideAtRay t column l
-  wide_second k l c w v = record { order = order; is_order = is_order; wide = inr (den, narrow, record {
-    inside = v.inside;
-    here = inr v.here;
-    first_value = λ m i. w.first m (omega arith);
-    first_move = v.first;
-  }) }
+  wide_second k l c w v = record {
+    order = order;
+    is_order = is_order;
+    wide = inr (
+      den,
+      narrow,
+      record {
+        inside = v.inside;
+        here = inr v.here;
+        first_value = λ m i. w.first m (omega arith);
+        first_move = v.first;
+      },
+    );
+  }

@@ -1,7 +1,6 @@
 -- What answer_at returns, from what the tableau shows.
-use Rattle.std.specs.Prelude.{ℕ, ◌+◌, ◌<◌, ◌≤◌, ◌^◌, ◌≡◌, ◌⊎◌, ℤ, pos, neg_ℤ, Bool, true, false, List, length, Option, None, Some, Result, Ok, Err, IfOk, IfErr, IfSome, MatchResult}
-use Rattle.std.proofs.Common.{refl, ap, sym, subst, ◌∙◌, arith, inl, inr}
-use Rattle.std.proofs.lemmas.Int.{ints}
+use Rattle.std.specs.Prelude.{ℕ, ◌<◌, ◌^◌, ◌≡◌, ℤ, neg_ℤ, Bool, true, false, List, length, Option, Result, Ok, Err, IfOk, IfErr, IfSome, MatchResult}
+use Rattle.std.proofs.Common.{refl, sym, subst, arith, inl, inr}
 use Rattle.bz_algebra.specs.Tableaus.{rows_of}
 use Rattle.bz_tableau.specs.Dense.{entry}
 use Rattle.bz_tableau.specs.Laws.{place}
@@ -10,17 +9,15 @@ use Rattle.bz_tableau.specs.Tables.{Table, factor_column, shown, IsTableauOf}
 use Rattle.bz_tableau.specs.declared.answers.Answer.{Answer}
 use Rattle.bz_tableau.specs.declared.answers.Answer.TheVariants.{Least, Empty, Ray}
 use Rattle.bz_tableau.specs.declared.answers.LpStop.{LpStop}
-use Rattle.bz_tableau.specs.declared.answers.LpStop.TheVariants.{Wide, OutOfMemory}
-use Rattle.bz_tableau.specs.declared.answers.WideAt.TheVariants.{Den}
 use Rattle.bz_tableau.specs.declared.programs.Lp.{Lp}
-use Rattle.bz_lex.specs.Answers.{IsLeast, IsRay, IsAnswer, IsAnswerOf, AnswersBasis, HasNoAnswer, basis_of}
+use Rattle.bz_lex.specs.Answers.{IsLeast, IsRay, IsAnswerOf, AnswersBasis, HasNoAnswer}
 use Rattle.bz_lex.specs.Refusals.{IsRayBasis, IsFirstWidePlace, HasNoWidePlace, HasAnswerSigns, IsAnswerRefusal}
-use Rattle.bz_lex.specs.Shown.{HasPoint, HasLeastCost, IsFreeFall, IsFirstFall, own_entry, IsNarrowLeast, IsShownOrder, IsShownLeast, IsShownRay, ShowsLeast, ShowsRay, GoesWideAtLeast, GoesWideAtRay, IsFirstWideRay, IsWideOver, AnswersShown}
+use Rattle.bz_lex.specs.Shown.{HasPoint, HasLeastCost, IsFreeFall, IsFirstFall, own_entry, IsNarrowLeast, IsShownOrder, ShowsLeast, ShowsRay, GoesWideAtLeast, GoesWideAtRay, IsFirstWideRay, IsWideOver, AnswersShown}
 use Rattle.bz_lex.specs.Points.{IsRayColumn}
 use Rattle.bz_lex.specs.Refusals.{at_number}
 use Rattle.bz_lex.proofs.Moves.{order_of, none_wide}
 use Rattle.bz_lex.proofs.ShownAnswers.{ray_falls, ray_column, same_column, ray_is, no_ray, least_is, none_is_wide, wide_multiple, wide_value, wide_move, least_signs_are, ray_signs_are}
-use Rattle.bz_lex.proofs.ShownBases.{shown_basis, slack_is, is_order, number_small, point_of_answer, cost_of_answer}
+use Rattle.bz_lex.proofs.ShownBases.{shown_basis, is_order, number_small, point_of_answer, cost_of_answer}
 
 -- the outcome is the basis's answer, without a wide place, or its first wide place
 abbrev pub IsRightOutcome : Bool → Lp → List ℕ → Result Answer ℕ → Type 0

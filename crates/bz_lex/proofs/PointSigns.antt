@@ -1,21 +1,19 @@
 -- The signs of a basis: what its rows and its objective row say of its point and of the columns outside it.
-use Rattle.std.specs.Prelude.{ℕ, suc, ◌+◌, ◌-◌, ◌<◌, ◌≤◌, ◌≡◌, ◌≢◌, ◌⊎◌, ℤ, pos, ◌+ℤ◌, ◌-ℤ◌, ◌*ℤ◌, neg_ℤ, ◌≤ℤ◌, ◌<ℤ◌, Bool, false, unsigned_abs}
+use Rattle.std.specs.Prelude.{ℕ, suc, ◌+◌, ◌-◌, ◌<◌, ◌≤◌, ◌≡◌, ◌≢◌, ℤ, pos, ◌+ℤ◌, ◌-ℤ◌, ◌*ℤ◌, neg_ℤ, ◌≤ℤ◌, ◌<ℤ◌, Bool, unsigned_abs}
 use Rattle.std.specs.Int.{◌∣◌}
 use Rattle.std.proofs.Common.{refl, ap, sym, subst, ◌∙◌, arith, inl, inr}
-use Rattle.std.proofs.lemmas.Bool.{cases_eq}
 use Rattle.std.proofs.lemmas.Int.{ints}
-use Rattle.std.proofs.Math.IntN.{*ℤ_comm}
 use Rattle.bz_algebra.specs.Sums.{upto}
 use Rattle.bz_algebra.specs.Tableaus.{Equations, side, Program, IsCombination, IsRow, IsTableau, IsObjectiveRow, row_entry, objective_entry, rows_of, equations_of, factor, with_factor}
-use Rattle.bz_algebra.proofs.Bounded.{by_lt, choose, with_last, with_last_at, with_last_before}
+use Rattle.bz_algebra.proofs.Bounded.{by_lt, with_last, with_last_at, with_last_before}
 use Rattle.bz_algebra.proofs.Combinations.{combination_upto}
 use Rattle.bz_algebra.proofs.Programs.{own, own_is, own_row, combination_columns, row_of_objective, objective_row, factor_off}
-use Rattle.bz_algebra.proofs.Ring.{*ℤ_assoc, neg_mul, mul_add, add_mul, mul_left, mul_zero, zero_mul, mul_one, add_zero, zero_add, cancel_left, mul_positive, mul_nonnegative, mul_lt_left, positive-ne, cancel_le_right, cancel_le_left, cancel_lt_right, cancel_lt_left}
+use Rattle.bz_algebra.proofs.Ring.{*ℤ_assoc, neg_mul, mul_add, add_mul, mul_zero, zero_mul, mul_one, mul_nonnegative, cancel_le_right}
 use Rattle.bz_algebra.proofs.SumLemmas.{upto_same, upto_add, upto_scale, upto_scale_right, upto_split, upto_only, upto_zeros}
 use Rattle.bz_algebra.proofs.Uniqueness.{row_unique}
-use Rattle.bz_lex.proofs.Wholes.{IsWhole, IsHalf, IsFreeColumn, only_at, only_here, only_off, only_zero, extended, extended_before, extended_slack, extended_meets, whole_of_half, whole_meets, basic_or_not, balance, sums_at, upto_two, total_of, total_positive, total_times}
+use Rattle.bz_lex.proofs.Wholes.{IsWhole, only_zero, extended, extended_before, extended_slack, extended_meets, whole_of_half, basic_or_not, sums_at}
 use Rattle.bz_lex.specs.Answers.{AreMultipliersFor, IsSameCost}
-use Rattle.bz_lex.specs.Points.{IsOutside, terms, IsPoint, MeetsRows, IsDirection, FallsFreely, MakesRay}
+use Rattle.bz_lex.specs.Points.{IsOutside, terms, IsPoint, MeetsRows}
 
 -- ---- the point
 module _ (s : Equations) (basis : ℕ → ℕ) (w : ℕ → ℕ → ℤ) (tableau : IsTableau s basis w) (z : ℕ → ℤ) (den : ℤ) (point : IsPoint s basis z den) where
@@ -63,7 +61,7 @@ module _ (s : Equations) (basis : ℕ → ℕ) (w : ℕ → ℕ → ℤ) (tablea
       nonnegative j l = by_lt j s.slack
           (λ c. subst (λ (y : ℤ). (pos 0) ≤ℤ y) (sym (extended_before s z den j c)) (m.nonnegative j c))
           (λ c. let e : s.slack + (j - s.slack) ≡ j = omega arith in
-                subst (λ (i : ℕ). (pos 0) ≤ℤ (extended s z den i)) e (omega (arith, ints, extended_slack s z den (j - s.slack), m.rows_hold (j - s.slack) (omega arith))))
+          subst (λ (i : ℕ). (pos 0) ≤ℤ (extended s z den i)) e (omega (arith, ints, extended_slack s z den (j - s.slack), m.rows_hold (j - s.slack) (omega arith))))
 
 pub point_meets : (s : Equations) (basis : ℕ → ℕ) (w : ℕ → ℕ → ℤ) (z : ℕ → ℤ) (den : ℤ) → IsTableau s basis w → IsPoint s basis z den → ((k : ℕ) → k < s.rows → (pos 0) ≤ℤ (w k (side s))) → MeetsRows s z den
 point_meets s basis w z den t p h = meets_by_signs s basis w t z den p h
@@ -187,9 +185,9 @@ module _ (relaxed : Bool) (p : Program) (basis : ℕ → ℕ) (w : ℕ → ℕ �
   pub signs_by_multipliers : (d : ℤ) (y : ℕ → ℤ) → IsObjectiveRow relaxed p basis d y → AreMultipliersFor relaxed p d y → (j : ℕ) → j < side few → (pos 0) ≤ℤ (last j)
   signs_by_multipliers d y o m j b = by_lt j all.slack
       (λ l. let same = objective_is d y o in
-            subst (λ (t : ℤ). (pos 0) ≤ℤ t) (sym (term_is d y same j l)) (m.columns j l))
+      subst (λ (t : ℤ). (pos 0) ≤ℤ t) (sym (term_is d y same j l)) (m.columns j l))
       (λ l. let e : all.slack + (j - all.slack) ≡ j = omega arith in
-            subst (λ (i : ℕ). (pos 0) ≤ℤ (last i)) e (subst (λ (t : ℤ). (pos 0) ≤ℤ t) (sym ((objective_is d y o).1 (j - all.slack) (omega arith))) (m.multipliers (j - all.slack) (omega arith))))
+      subst (λ (i : ℕ). (pos 0) ≤ℤ (last i)) e (subst (λ (t : ℤ). (pos 0) ≤ℤ t) (sym ((objective_is d y o).1 (j - all.slack) (omega arith))) (m.multipliers (j - all.slack) (omega arith))))
 
   -- a sum with the objective row over what is 0 outside the basis but at c
   pub objective_at : (few_rows : ℕ → ℕ → ℤ) → IsTableau few basis few_rows → (f : ℕ → ℤ) (c : ℕ) → c < side few → ((j : ℕ) → j < side few → j ≢ c → IsOutside few basis j → f j ≡ pos 0) → upto (side few) (λ j. last j *ℤ f j) ≡ last c *ℤ f c

@@ -1,5 +1,5 @@
 -- Directions along which the cost falls freely, and the signs of a column that say so.
-use Rattle.std.specs.Prelude.{ℕ, zero, suc, ◌+◌, ◌-◌, ◌<◌, ◌≤◌, ◌≡◌, ◌≢◌, ◌⊎◌, ℤ, pos, ◌+ℤ◌, ◌-ℤ◌, ◌*ℤ◌, neg_ℤ, ◌≤ℤ◌, ◌<ℤ◌, Bool, false}
+use Rattle.std.specs.Prelude.{ℕ, ◌+◌, ◌-◌, ◌<◌, ◌≡◌, ◌≢◌, ◌⊎◌, ℤ, pos, ◌+ℤ◌, ◌-ℤ◌, ◌*ℤ◌, neg_ℤ, ◌≤ℤ◌, ◌<ℤ◌, false}
 use Rattle.std.proofs.Common.{refl, ap, sym, subst, ◌∙◌, arith, inl, inr}
 use Rattle.std.proofs.lemmas.Bool.{cases_eq}
 use Rattle.std.proofs.lemmas.Int.{ints}
@@ -7,10 +7,10 @@ use Rattle.std.proofs.Math.IntN.{*ℤ_comm}
 use Rattle.bz_algebra.specs.Sums.{upto}
 use Rattle.bz_algebra.specs.Tableaus.{Equations, side, Program, IsTableau, rows_of, equations_of, factor, with_factor}
 use Rattle.bz_algebra.proofs.Bounded.{by_lt, choose}
-use Rattle.bz_algebra.proofs.Ring.{*ℤ_assoc, mul_left, mul_zero, zero_mul, neg_mul, mul_positive, mul_nonnegative, positive-ne, cancel_le_right, cancel_le_left, cancel_lt_right, cancel_lt_left, other_zero}
+use Rattle.bz_algebra.proofs.Ring.{*ℤ_assoc, mul_left, mul_zero, zero_mul, neg_mul, mul_positive, mul_nonnegative, positive-ne, cancel_le_right, cancel_le_left, cancel_lt_left, other_zero}
 use Rattle.bz_algebra.proofs.SumLemmas.{upto_same, upto_scale}
 use Rattle.bz_lex.proofs.PointSigns.{last_basic, last_positive, objective_sum, objective_at}
-use Rattle.bz_lex.proofs.Wholes.{IsWhole, IsFreeColumn, only_at, only_here, only_off, extended, extended_before, extended_slack, extended_meets, whole_meets, basic_or_not, balance, upto_two, total_of, total_positive, total_times}
+use Rattle.bz_lex.proofs.Wholes.{IsWhole, only_at, only_here, only_off, extended, extended_before, extended_slack, extended_meets, whole_meets, basic_or_not, balance, upto_two, total_of, total_positive, total_times}
 use Rattle.bz_lex.specs.Points.{IsOutside, terms, IsDirection, FallsFreely, MakesRay}
 
 -- the objective row is negative in the column, and no row of the basis is positive there
@@ -107,11 +107,14 @@ module _ (p : Program) (basis : ℕ → ℕ) (v w : ℕ → ℕ → ℤ) (rows :
       columns = λ j b. nonnegative j (omega arith);
       rows = λ i b. omega (arith, ints, against i b, nonnegative (few.slack + i) (omega arith));
       cost = negative (last (factor false p)) _ (last_positive false p basis w tableau)
-          (omega (arith, ints,
+          (omega (
+            arith,
+            ints,
             sym (objective_sum false p basis w tableau f (pos 0) meets) ∙ objective_at false p basis w tableau v rows f c signs.inside elsewhere ∙ ap (λ (x : ℤ). last c *ℤ x) at_column,
             mul_zero (upto p.rows (λ i. last (few.slack + i) *ℤ p.rhs i)),
             neg_mul (last c) t,
-            mul_positive (neg_ℤ (last c)) t (omega (arith, ints, signs.falls)) positive));
+            mul_positive (neg_ℤ (last c)) t (omega (arith, ints, signs.falls)) positive,
+          ));
     }
 
   -- there is one
@@ -133,11 +136,14 @@ module _ (p : Program) (basis : ℕ → ℕ) (v w : ℕ → ℕ → ℤ) (rows :
     number_of : (j : ℕ) → IsOutside few basis j ⊎ ((k : ℕ) × (k < p.rows) × (basis k ≡ j)) → (y : ℤ) × IsNumber j y
     unfolding total entries
     number_of j (inl o) = (only_at c (total_of entries p.rows) j, record { outside = λ g. refl; basic = λ k b e. absurd (o k b e) })
-    number_of j (inr q) = let f = total_times entries p.rows q.0 q.1 in (neg_ℤ (v q.0 c) *ℤ f.0, record {
-      outside = λ o. absurd (o q.0 q.1 q.2);
-      basic = λ k b e. subst (λ (i : ℕ). (neg_ℤ (v q.0 c) *ℤ f.0) *ℤ v i (basis i) ≡ neg_ℤ (v i c) *ℤ total_of entries p.rows) (rows.columns.different q.0 k q.1 b (q.2 ∙ sym e))
-          (*ℤ_assoc (neg_ℤ (v q.0 c)) f.0 (v q.0 (basis q.0)) ∙ ap (λ (x : ℤ). neg_ℤ (v q.0 c) *ℤ x) f.1);
-    })
+    number_of j (inr q) = let f = total_times entries p.rows q.0 q.1 in (
+      neg_ℤ (v q.0 c) *ℤ f.0,
+      record {
+        outside = λ o. absurd (o q.0 q.1 q.2);
+        basic = λ k b e. subst (λ (i : ℕ). (neg_ℤ (v q.0 c) *ℤ f.0) *ℤ v i (basis i) ≡ neg_ℤ (v i c) *ℤ total_of entries p.rows) (rows.columns.different q.0 k q.1 b (q.2 ∙ sym e))
+            (*ℤ_assoc (neg_ℤ (v q.0 c)) f.0 (v q.0 (basis q.0)) ∙ ap (λ (x : ℤ). neg_ℤ (v q.0 c) *ℤ x) f.1);
+      },
+    )
 
     numbers : (y : ℕ → ℤ) × ((j : ℕ) → j < side few → IsNumber j (y j))
     numbers = choose (side few) (pos 0) IsNumber (λ j b. number_of j (basic_or_not few basis v rows j))
@@ -208,13 +214,16 @@ module _ (p : Program) (basis : ℕ → ℕ) (v w : ℕ → ℕ → ℤ) (rows :
     direction_signs = record {
       inside = direction.inside;
       falls = negative (f c) (last c) rising
-          (omega (arith, ints,
+          (omega (
+            arith,
+            ints,
             *ℤ_comm (f c) (last c),
             sym (objective_at false p basis w tableau v rows f c direction.inside staying) ∙ objective_sum false p basis w tableau f (pos 0) extends ∙ ap (λ (x : ℤ). (upto p.rows (λ i. last (few.slack + i) *ℤ p.rhs i) *ℤ pos 0) +ℤ (last (factor false p) *ℤ x)) cost_is,
             mul_zero (upto p.rows (λ i. last (few.slack + i) *ℤ p.rhs i)),
             *ℤ_comm (last (factor false p)) (upto few.slack (λ j. p.cost j *ℤ d j)),
             neg_mul (upto few.slack (λ j. p.cost j *ℤ d j)) (last (factor false p)),
-            mul_positive (neg_ℤ (upto few.slack (λ j. p.cost j *ℤ d j))) (last (factor false p)) (omega (arith, ints, falls.cost)) (last_positive false p basis w tableau)));
+            mul_positive (neg_ℤ (upto few.slack (λ j. p.cost j *ℤ d j))) (last (factor false p)) (omega (arith, ints, falls.cost)) (last_positive false p basis w tableau),
+          ));
       free = λ k b. nonpositive_factor (f c) (v k c) rising
           (omega (arith, ints, *ℤ_comm (f c) (v k c), two k b, mul_nonnegative (v k (basis k)) (f (basis k)) (omega (arith, ints, (rows.rows k b).positive)) (nowhere_negative (basis k) (rows.columns.in_range k b))));
     }

@@ -1,16 +1,15 @@
 -- The answer that a tableau shows is the answer of its basis, and where it goes wide is the first wide place.
-use Rattle.std.specs.Prelude.{ℕ, suc, ◌+◌, ◌<◌, ◌≤◌, ◌≡◌, ◌≢◌, ◌⊎◌, ℤ, pos, ◌-ℤ◌, ◌*ℤ◌, neg_ℤ, ◌≤ℤ◌, ◌<ℤ◌, Bool, true, false, List, length, unsigned_abs}
+use Rattle.std.specs.Prelude.{ℕ, suc, ◌+◌, ◌<◌, ◌≡◌, ◌≢◌, ℤ, pos, ◌-ℤ◌, ◌*ℤ◌, neg_ℤ, ◌<ℤ◌, Bool, false, List, length, unsigned_abs}
 use Rattle.std.specs.Int.{◌∣◌}
-use Rattle.std.proofs.Common.{refl, ap, sym, subst, ◌∙◌, arith, inl, inr}
+use Rattle.std.proofs.Common.{ap, sym, subst, ◌∙◌, arith, inl, inr}
 use Rattle.std.proofs.lemmas.Int.{ints}
 use Rattle.bz_algebra.specs.Numbers.{IsNarrow, IsWide}
-use Rattle.bz_algebra.specs.Sums.{upto}
-use Rattle.bz_algebra.specs.Tableaus.{Equations, side, Program, IsObjectiveRow, rows_of, equations_of, factor}
+use Rattle.bz_algebra.specs.Tableaus.{Equations, side, Program, IsObjectiveRow, rows_of, factor}
 use Rattle.bz_algebra.proofs.Bounded.{by_order}
-use Rattle.bz_algebra.proofs.Ring.{*ℤ_assoc, mul_zero, mul_neg, neg_mul, neg_neg, positive-ne}
+use Rattle.bz_algebra.proofs.Ring.{mul_zero, mul_neg, neg_mul, neg_neg}
 use Rattle.bz_algebra.proofs.SumLemmas.{upto_zeros}
-use Rattle.bz_tableau.specs.Dense.{entry, DividesRow}
-use Rattle.bz_tableau.specs.Laws.{place, HasRowsOfBasis}
+use Rattle.bz_tableau.specs.Dense.{entry}
+use Rattle.bz_tableau.specs.Laws.{place}
 use Rattle.bz_tableau.specs.Programs.{program_of, lp_equations}
 use Rattle.bz_tableau.specs.Tables.{Table, number, shown, factor_column, IsTableauOf}
 use Rattle.bz_tableau.specs.declared.answers.Vals.{Vals}
@@ -19,12 +18,11 @@ use Rattle.bz_tableau.proofs.RowsOfBasis.{rows_of_basis}
 use Rattle.bz_lex.specs.Answers.{IsLeast, IsRay}
 use Rattle.bz_lex.specs.Points.{IsOutside, IsPoint, IsDirection, FallsFreely, MakesRay, IsRayColumn}
 use Rattle.bz_lex.specs.Refusals.{at_number, IsRayBasis, IsWideValue, IsWidePlace, IsFirstWidePlace, HasNoWidePlace, HasAnswerSigns}
-use Rattle.bz_lex.specs.Shown.{HasPoint, HasLeastCost, IsFreeFall, IsFirstFall, own_entry, IsLeastTo, IsNarrowLeast, IsFirstWideLeast, IsOver, IsWideOver, IsFirstWideOver, IsFirstWideRay, IsShownOrder, IsShownPoint, IsShownLeast, IsShownMove, IsShownDirection, IsShownRay, GoesWideAtLeast, GoesWideAtRay}
+use Rattle.bz_lex.specs.Shown.{HasPoint, HasLeastCost, IsFreeFall, IsFirstFall, own_entry, IsLeastTo, IsNarrowLeast, IsFirstWideLeast, IsWideOver, IsShownOrder, IsShownLeast, IsShownMove, IsShownRay}
 use Rattle.bz_lex.proofs.LeastMultiples.{least_divides, divides_narrow, least_same}
-use Rattle.bz_lex.proofs.Moves.{order_of, none_wide}
 use Rattle.bz_lex.proofs.PointSigns.{point_meets, objective_same, multipliers_by_signs, same_cost}
 use Rattle.bz_lex.proofs.RaySigns.{AreRaySigns, direction_signs, signs_make_ray, signs_direction, signs_fall, shorter_direction, shorter_falls, falls_outside}
-use Rattle.bz_lex.proofs.ShownBases.{few_rows, all_rows, slack_is, count_is, side_is, shown_basis, basis_list, right_sides, any_right_side, last_signs, least_signs, last_number, is_order, find, common_denominator, multiple_up_to, not_wide, shown_point}
+use Rattle.bz_lex.proofs.ShownBases.{few_rows, all_rows, slack_is, count_is, side_is, basis_list, right_sides, any_right_side, last_signs, least_signs, last_number, is_order, find, common_denominator, multiple_up_to, not_wide, shown_point}
 use Rattle.bz_lex.proofs.Wholes.{IsHalf, IsWhole, only_at, only_here, only_off, extended, extended_before, whole_of_half}
 
 -- ---- multiples that aren't wide

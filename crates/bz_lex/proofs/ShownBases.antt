@@ -1,29 +1,27 @@
 -- What a tableau shows of its basis, in the program's own words.
-use Rattle.std.specs.Prelude.{ℕ, zero, suc, ◌+◌, ◌<◌, ◌≤◌, ◌≡◌, ◌≢◌, ◌⊎◌, ℤ, pos, ◌-ℤ◌, ◌*ℤ◌, neg_ℤ, ◌≤ℤ◌, ◌<ℤ◌, Bool, true, false, List, length, unsigned_abs, ◌==◌, if◌then◌else◌}
+use Rattle.std.specs.Prelude.{ℕ, zero, suc, ◌+◌, ◌<◌, ◌≤◌, ◌≡◌, ℤ, pos, ◌*ℤ◌, neg_ℤ, ◌≤ℤ◌, Bool, List, length, unsigned_abs}
 use Rattle.std.specs.Int.{◌∣◌}
-use Rattle.std.proofs.Common.{refl, ap, sym, subst, ◌∙◌, arith, inl, inr}
+use Rattle.std.proofs.Common.{ap, sym, subst, ◌∙◌, arith, inl, inr}
 use Rattle.std.proofs.Math.IntN.{*ℤ_comm}
-use Rattle.std.proofs.lemmas.Bool.{cases_eq, ne_eqb}
+use Rattle.std.proofs.lemmas.Bool.{ne_eqb}
 use Rattle.std.proofs.lemmas.Int.{ints}
 use Rattle.bz_algebra.specs.Numbers.{IsNarrow, IsWide}
-use Rattle.bz_algebra.specs.Sums.{upto}
-use Rattle.bz_algebra.specs.Tableaus.{Equations, side, Program, IsRow, IsTableau, IsBasis, IsObjectiveRow, rows_of, equations_of, factor, with_factor}
+use Rattle.bz_algebra.specs.Tableaus.{Equations, side, Program, IsRow, IsTableau, IsObjectiveRow, rows_of, equations_of, factor, with_factor}
 use Rattle.bz_algebra.proofs.Bounded.{by_order, by_lt}
-use Rattle.bz_algebra.proofs.Ring.{*ℤ_assoc, mul_zero, mul_neg, neg_mul, positive-ne}
+use Rattle.bz_algebra.proofs.Ring.{*ℤ_assoc, mul_neg, neg_mul}
 use Rattle.bz_algebra.proofs.Uniqueness.{row_unique}
-use Rattle.bz_tableau.specs.Dense.{entry, DividesRow}
+use Rattle.bz_tableau.specs.Dense.{entry}
 use Rattle.bz_tableau.specs.Laws.{place, HasRowsOfBasis}
 use Rattle.bz_tableau.specs.Programs.{program_of, lp_equations}
 use Rattle.bz_tableau.specs.Tables.{Table, number, shown, factor_column, IsTableauOf}
 use Rattle.bz_tableau.specs.declared.answers.Vals.{Vals}
 use Rattle.bz_tableau.specs.declared.programs.Lp.{Lp}
 use Rattle.bz_tableau.proofs.RowsOfBasis.{rows_of_basis}
-use Rattle.bz_lex.specs.Answers.{IsBasisList, AreMultipliersFor, IsLeast}
-use Rattle.bz_lex.specs.Points.{IsOutside, IsMultipleOfEntries, IsLeastMultiple, IsCommonDenominator, IsPoint, MeetsRows}
-use Rattle.bz_lex.specs.Refusals.{at_number, IsRisingOrder, HasLeastSigns, IsRayBasis, IsWideMultiple, IsWideValue, IsWidePlace}
-use Rattle.bz_lex.specs.Shown.{HasPoint, HasLeastCost, own_entry, IsShownBasis, IsMultipleTo, IsLeastTo, IsNarrowLeast, IsOver, IsWideOver, IsShownOrder, IsShownPoint, IsShownLeast}
-use Rattle.bz_lex.proofs.LeastMultiples.{least_divides, divides_narrow, least_same}
-use Rattle.bz_lex.proofs.PointSigns.{point_meets, point_signs, objective_same, multipliers_by_signs, signs_by_multipliers, same_cost}
+use Rattle.bz_lex.specs.Answers.{IsBasisList, AreMultipliersFor}
+use Rattle.bz_lex.specs.Points.{IsMultipleOfEntries, IsLeastMultiple, IsCommonDenominator, IsPoint, MeetsRows}
+use Rattle.bz_lex.specs.Refusals.{at_number, IsRisingOrder, HasLeastSigns, IsRayBasis, IsWideValue, IsWidePlace}
+use Rattle.bz_lex.specs.Shown.{HasPoint, HasLeastCost, own_entry, IsShownBasis, IsMultipleTo, IsLeastTo, IsNarrowLeast, IsOver, IsWideOver, IsShownOrder, IsShownPoint}
+use Rattle.bz_lex.proofs.PointSigns.{point_signs, multipliers_by_signs, signs_by_multipliers}
 
 module _ (relaxed : Bool) (lp : Lp) (t : Table) (h : IsTableauOf relaxed lp t) where
   abbrev program : Program

@@ -5,11 +5,11 @@ use Rattle.std.proofs.lemmas.Bool.{cases_eq, eq-eqb, ne_eqb, lt-ltb, le-ltb}
 use Rattle.std.proofs.lemmas.Int.{ints}
 use Rattle.std.proofs.Math.IntN.{*ℤ_comm}
 use Rattle.bz_algebra.specs.Sums.{upto}
-use Rattle.bz_algebra.specs.Tableaus.{Equations, side, IsCombination, IsRow, IsTableau}
+use Rattle.bz_algebra.specs.Tableaus.{Equations, side, IsCombination, IsTableau}
 use Rattle.bz_algebra.proofs.Bounded.{by_lt, below_suc, all_or_some, choose}
 use Rattle.bz_algebra.proofs.Programs.{own, own_is, own_row}
-use Rattle.bz_algebra.proofs.Ring.{*ℤ_assoc, mul_add, add_mul, mul_sub, sub_mul, mul_left, mul_right, mul_zero, zero_mul, one_mul, mul_one, add_zero, zero_add, cancel_left, mul_positive, positive-ne}
-use Rattle.bz_algebra.proofs.SumLemmas.{upto_same, upto_add, upto_scale, upto_scale_right, upto_swap, upto_split, upto_only, upto_zeros}
+use Rattle.bz_algebra.proofs.Ring.{*ℤ_assoc, mul_add, mul_sub, mul_left, mul_right, mul_zero, zero_mul, one_mul, add_zero, zero_add, cancel_left, mul_positive, positive-ne}
+use Rattle.bz_algebra.proofs.SumLemmas.{upto_same, upto_add, upto_scale, upto_scale_right, upto_swap, upto_split, upto_only}
 use Rattle.bz_tableau.proofs.Basics.{made_of_rows}
 use Rattle.bz_lex.specs.Points.{IsOutside, terms}
 
@@ -267,10 +267,13 @@ module _ (s : Equations) (basis : ℕ → ℕ) (w : ℕ → ℕ → ℤ) (tablea
 
   number_of : (j : ℕ) → IsOutside s basis j ⊎ ((k : ℕ) × (k < s.rows) × (basis k ≡ j)) → (y : ℤ) × IsNumber j y
   number_of j (inl o) = (many *ℤ only_at c t j, record { outside = λ g. refl; basic = λ k b e. absurd (o k b e) })
-  number_of j (inr p) = (times.0 p.0 *ℤ said p.0, record {
-    outside = λ o. absurd (o p.0 p.1 p.2);
-    basic = λ k b e. ap (λ (i : ℕ). times.0 i *ℤ said i) (tableau.columns.different p.0 k p.1 b (p.2 ∙ sym e));
-  })
+  number_of j (inr p) = (
+    times.0 p.0 *ℤ said p.0,
+    record {
+      outside = λ o. absurd (o p.0 p.1 p.2);
+      basic = λ k b e. ap (λ (i : ℕ). times.0 i *ℤ said i) (tableau.columns.different p.0 k p.1 b (p.2 ∙ sym e));
+    },
+  )
 
   numbers : (y : ℕ → ℤ) × ((j : ℕ) → j < side s → IsNumber j (y j))
   numbers = choose (side s) (pos 0) IsNumber (λ j b. number_of j (basic_or_not s basis w tableau j))
@@ -327,7 +330,7 @@ module _ (s : Equations) (basis : ℕ → ℕ) (w : ℕ → ℕ → ℤ) (tablea
   each_number j b = by_lt j s.slack
       (λ l. ap (λ (y : ℤ). many *ℤ y) (extended_before s z r j l) ∙ sym (before j l))
       (λ l. let e : s.slack + (j - s.slack) ≡ j = omega arith in
-            subst (λ (i : ℕ). many *ℤ extended s z r i ≡ numbers.0 i) e (ap (λ (y : ℤ). many *ℤ y) (extended_slack s z r (j - s.slack)) ∙ sym (slack_number (j - s.slack) (omega arith))))
+      subst (λ (i : ℕ). many *ℤ extended s z r i ≡ numbers.0 i) e (ap (λ (y : ℤ). many *ℤ y) (extended_slack s z r (j - s.slack)) ∙ sym (slack_number (j - s.slack) (omega arith))))
 
   extended_whole : IsWhole s basis w r c t (extended s z r)
   unfolding said

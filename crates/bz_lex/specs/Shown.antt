@@ -1,5 +1,5 @@
 -- What is read off a tableau: signs, and the numbers of its basic columns over a common denominator.
-use Rattle.std.specs.Prelude.{ℕ, suc, ◌+◌, ◌<◌, ◌≤◌, ◌≡◌, ◌≢◌, ◌⊎◌, ℤ, pos, ◌*ℤ◌, neg_ℤ, ◌≤ℤ◌, ◌<ℤ◌, Bool, List, length, unsigned_abs, Option, Some, Result, Ok, Err}
+use Rattle.std.specs.Prelude.{ℕ, suc, ◌+◌, ◌<◌, ◌≡◌, ◌≢◌, ◌⊎◌, ℤ, pos, ◌*ℤ◌, neg_ℤ, ◌≤ℤ◌, ◌<ℤ◌, Bool, List, length, unsigned_abs, Option, Some, Result, Ok, Err}
 use Rattle.std.specs.Int.{◌∣◌}
 use Rattle.bz_algebra.specs.Numbers.{IsNarrow, IsWide}
 use Rattle.bz_tableau.specs.Dense.{entry, DividesRow, IsDivided}

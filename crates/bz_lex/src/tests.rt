@@ -14,7 +14,9 @@ use std::process::Abort;
 use std::test::Fail;
 
 const TWO_TO_63: i128 = 9223372036854775808;
+
 const TWO_TO_64: i128 = 18446744073709551616;
+
 const TWO_TO_126: i128 = 85070591730234615865843651857942052864;
 
 /// What is expected of a basis.
@@ -53,7 +55,16 @@ fn is_wanted(found: &Result<Option<Answer>, LpStop>, want: &Want<'_>) -> bool {
             },
         ) => basis.as_slice() == *places && is_vals(z, *point) && is_vals(y, *multipliers),
         (
-            Ok(Some(Answer::Ray { basis, column, z, d })),
+            Ok(
+                Some(
+                    Answer::Ray {
+                        basis,
+                        column,
+                        z,
+                        d,
+                    },
+                ),
+            ),
             Want::Ray {
                 basis: places,
                 column: rises,
@@ -157,8 +168,7 @@ fn one_row(
     ensures { IfOk result (λ lp. IsLp lp) }
 {
     let mut rows = Vec::with_capacity(alloc, 1)?;
-    rows.push(row(alloc, terms, rhs)?)
-        .map_err(|_| OutOfMemory)?;
+    rows.push(row(alloc, terms, rhs)?).map_err(|_| OutOfMemory)?;
     Ok(Lp {
         columns: 1,
         rows: Items::from_vec(rows),
@@ -315,7 +325,15 @@ fn wide(rt: HostRuntime) -> Result<(), Fail> {
         place: 1,
     };
     // the common denominator
-    let lp = two_rows(alloc, 2, &[(0, TWO_TO_64)], 1, &[(1, TWO_TO_64 + 1)], 1, &[])?;
+    let lp = two_rows(
+        alloc,
+        2,
+        &[(0, TWO_TO_64)],
+        1,
+        &[(1, TWO_TO_64 + 1)],
+        1,
+        &[],
+    )?;
     check(&rt, alloc, &lp, false, &pivots, &second)?;
     // a number of the point
     let lp = two_rows(alloc, 2, &[(0, 3)], 1, &[(1, 5)], TWO_TO_126, &[])?;

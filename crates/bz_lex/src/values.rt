@@ -42,7 +42,11 @@ pub fn values(
     let mut values = vec![in alloc; 0; slack as usize]?;
     for k in 0..order.len() {
         let row = order[k];
-        match value_over(den, own_number(tableau, order, k), tableau.entry(row, column)) {
+        match value_over(
+            den,
+            own_number(tableau, order, k),
+            tableau.entry(row, column),
+        ) {
             Some(value) => values[tableau.basis()[row as usize] as usize] = value,
             None => return Ok(Err(k)),
         }

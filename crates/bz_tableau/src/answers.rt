@@ -52,7 +52,8 @@ pub enum WideAt {
         pivot_row: u32,
         column: u32,
     },
-    /// A value of the basis over the common denominator, by the place of its column among those that are not slacks.
+    /// A value of the basis over the common denominator, by the place of its column, from 0, among the basic columns
+    /// that are not slacks, in rising order.
     Den {
         relaxed: bool,
         basis: Items<u32>,

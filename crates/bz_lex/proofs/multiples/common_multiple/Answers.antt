@@ -1,7 +1,7 @@
 -- Each turn takes one number more.
-use Rattle.std.proofs.Common.{rules, arith, FitsSigned, to_z, to_z-of_z, subst, ◌≡◌, ℤ, sym}
+use Rattle.std.proofs.Common.{rules, FitsSigned, to_z, to_z-of_z}
 use Rattle.std.specs.Int.{w128}
-use Rattle.bz_lex.specs.Shown.{own_entry, HasWideMultiple, IsLeastOfTwo}
+use Rattle.bz_lex.specs.Shown.{own_entry}
 use Rattle.bz_lex.proofs.LeastMultiples.{least_none, narrow_more, first_wide_least}
 use Rattle.bz_lex.proofs.multiples.common_multiple.Goals as goal
 

@@ -1,8 +1,7 @@
 -- What the greatest common divisor leaves of the one, times the other.
-use Rattle.std.proofs.Common.{◌≡◌, ◌<ℤ◌, ◌≢◌, pos, ◌*ℤ◌, arith, rules, FitsSigned, to_z-of_z}
+use Rattle.std.proofs.Common.{◌<ℤ◌, ◌≢◌, pos, ◌*ℤ◌, arith, rules, FitsSigned, to_z-of_z}
 use Rattle.std.proofs.lemmas.Int.{ints}
-use Rattle.std.specs.Int.{w128, IsGcd}
-use Rattle.std.specs.Int.RustNames.{unsigned_abs}
+use Rattle.std.specs.Int.{w128}
 use Rattle.bz_algebra.proofs.Ring.{positive-ne, by_sign}
 use Rattle.bz_tableau.proofs.Clearing.{gcd_nonzero}
 use Rattle.bz_lex.proofs.LeastMultiples.{least_of_two, multiple_outcome}

@@ -1,6 +1,5 @@
 -- The values over minus the denominator, the column at the denominator, and all of it divided.
-use Rattle.std.proofs.Common.{rules, arith, FitsSigned, to_z-of_z, ◌≡◌, ap, sym, subst, ◌∙◌, pos, ◌-ℤ◌, neg_ℤ, ℤ, List, length, unsigned_abs}
-use Rattle.std.proofs.lemmas.Int.{ints}
+use Rattle.std.proofs.Common.{rules, arith, FitsSigned, to_z-of_z, ◌≡◌, ap, sym, subst, ◌∙◌, pos, ◌-ℤ◌, ℤ, List, length}
 use Rattle.std.specs.Int.{w128}
 use Rattle.bz_tableau.proofs.Reductions.{size_negated, written_back}
 use Rattle.bz_lex.specs.Shown.{IsShownMove}
@@ -25,7 +24,7 @@ returns-in-Ok c =
     let length_is : c.raise-d.result.len ≡ length c.raise-d.result.items = search rules in
     let same = written_back c.raise-d.result.len c.make_primitive.new.numbers c.raise-d.result.items length_is lengths in
     subst (λ (l : List ℤ). IsShownMove c.args.tableau.now c.args.order.now c.args.den c.args.column l) (sym same)
-        (move_of c.args.tableau.now c.args.order.now c.args.den c.args.column c.in-Ok.moves.items c.raise-d.result.items c.make_primitive.new.numbers c.requires.order moves width (λ b. own (omega (arith, b, c.requires.slack))) c.raise-d.ensures.other part lengths)
+    (move_of c.args.tableau.now c.args.order.now c.args.den c.args.column c.in-Ok.moves.items c.raise-d.result.items c.make_primitive.new.numbers c.requires.order moves width (λ b. own (omega (arith, b, c.requires.slack))) c.raise-d.ensures.other part lengths)
 
 pub returns-in-Err : goal.returns-in-Err
 returns-in-Err c =

@@ -1,10 +1,6 @@
 -- Each turn puts one value in its column.
-use Rattle.std.proofs.Common.{rules, arith, ◌≡◌, ◌<◌, ap, sym, subst, ◌∙◌, FitsSigned, to_z-of_z, length, unsigned_abs, ℕ, ℤ}
-use Rattle.std.specs.Int.{w128, ◌∣◌}
-use Rattle.bz_tableau.specs.Laws.{place}
-use Rattle.bz_tableau.specs.Tables.{shown}
-use Rattle.bz_lex.specs.Refusals.{at_number}
-use Rattle.bz_lex.specs.Shown.{own_entry, IsOver, IsWideOver}
+use Rattle.std.proofs.Common.{rules, arith, FitsSigned, to_z-of_z}
+use Rattle.std.specs.Int.{w128}
 use Rattle.bz_lex.proofs.BasicValues.{values_more, first_wide_over}
 use Rattle.bz_lex.proofs.values.values.Goals as goal
 
@@ -18,7 +14,7 @@ pub bounds-basis-row : goal.bounds-basis-row
 bounds-basis-row c = rw c.basis.ensures (c.requires.order.inside c.loop-k.k c.loop-k-test.true)
 
 pub index_mut-requires : goal.index_mut-requires
-index_mut-requires c = 
+index_mut-requires c =
     let before = c.requires.order.before_slacks c.loop-k.k c.loop-k-test.true in
     let width = c.loop-k.invariant.width in
     rw c.basis.ensures (omega (arith, before, width, c.loop-k.values.ok))

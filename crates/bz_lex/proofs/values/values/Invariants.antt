@@ -1,6 +1,3 @@
-use Rattle.std.specs.Prelude.{ℕ, ◌<◌}
-use Rattle.bz_tableau.specs.Laws.{place}
-use Rattle.bz_tableau.specs.Tables.{shown}
 use Rattle.bz_lex.specs.Shown.{AreValuesTo}
 use Rattle.bz_lex.proofs.values.values.Given as goal
 
