@@ -14,6 +14,7 @@ use Rattle.bz_lines.specs.declared.form.FormStop.{FormStop}
 use Rattle.bz_lines.specs.declared.form.FormStop.TheVariants.{Outside, OutOfMemory}
 use Rattle.bz_cert.specs.CertText.{IsCertText}
 use Rattle.bz_mps.specs.ModelText.{IsModelText}
+use Rattle.bz_part.proofs.NoParts.{part_of_text, same_parts}
 use Rattle.bz_part.specs.PartText.{IsPartText}
 use Rattle.bz_top.specs.declared.job.Job.{Job}
 use Rattle.bz_top.specs.declared.status.File.{File}
@@ -37,6 +38,9 @@ OnePart = (text : List ℕ) (m : Model) (p q : List ℕ) → IsPartText text m p
 
 abbrev pub OneCertificate : Type 0
 OneCertificate = (text : List ℕ) (c d : Certificate) → IsCertText text c → IsCertText text d → c ≡ d
+
+pub one_part : OnePart
+one_part text m p q h k = same_parts text m.columns p q (part_of_text text p m h) (part_of_text text q m k)
 
 -- a file gives one model
 one_model_read : OneModel → (contents : Contents) (job : Job) (m n : Model) → ReadsModel contents job m → ReadsModel contents job n → m ≡ n

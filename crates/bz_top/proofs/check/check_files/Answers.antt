@@ -9,15 +9,14 @@ use Rattle.bz_model.specs.Splits.{IsSplit}
 use Rattle.bz_pass.specs.Certificates.{Passes, stated_objective}
 use Rattle.bz_pass.proofs.Optimality.{passing_optimal}
 use Rattle.bz_pass.proofs.SomePoint.{passing_point}
-use Rattle.bz_top.proofs.Stub.{one_certificate}
+use Rattle.bz_cert.proofs.Readings.{same_certificate}
 use Rattle.bz_top.proofs.Stub.{one_model}
-use Rattle.bz_top.proofs.Stub.{one_part}
 use Rattle.bz_top.specs.declared.status.File.TheVariants.{Cert as CertFile}
 use Rattle.bz_top.specs.declared.status.Refusal.{Refusal}
 use Rattle.bz_cert.specs.CertText.{IsCertText}
 use Rattle.bz_top.specs.Claims.{IsCause, RefusesCheck, Shown}
 use Rattle.bz_top.proofs.Causes.{cert_reached, load_cause, held_at_first, if_err_and, if_err_then, if_ok_then}
-use Rattle.bz_top.proofs.Refused.{cert_refused, check_refused}
+use Rattle.bz_top.proofs.Refused.{cert_refused, check_refused, one_part}
 use Rattle.bz_top.proofs.Showing.{shows}
 use Rattle.bz_top.proofs.check.check_files.Goals as goal
 
@@ -55,5 +54,5 @@ returns-clause-cause g c =
     let reads : IsCertText c.in_ok-text.text.items c.in-Ok.certificate =
     subst (λ (text : List ℕ). IsCertText text c.in-Ok.certificate) c.as_slice.ensures.value c.in-Ok.ensures in
     if_err_then {T = Stated} {E = Refusal} {P = RefusesCheck c.in_ok-split.split c.in-Ok.certificate} {Q = IsCause (g.D.Desk.held c.args.desk.now) c.args.job.now} c.agree.result
-    (λ r refuses. check_refused one_model one_part one_certificate _ _ _ _ _ r c.in_ok-split.ensures.accepted held c.in_ok-text.ensures.within reads refuses)
+    (λ r refuses. check_refused one_model one_part same_certificate _ _ _ _ _ r c.in_ok-split.ensures.accepted held c.in_ok-text.ensures.within reads refuses)
     c.agree.ensures.refused
