@@ -8,6 +8,16 @@ abbrev pub Refuses : {X : Type 0} → (X → Type 0) → FormStop → Type 0
 Refuses {X} Says Outside = (x : X) → Says x → ⊥
 Refuses Says OutOfMemory = Unit {0}
 
+-- a refusal, which comes where P does not hold, or for want of memory
+abbrev pub RefusesUnless : Type 0 → FormStop → Type 0
+RefusesUnless P Outside = P → ⊥
+RefusesUnless P OutOfMemory = Unit {0}
+
+-- the reader accepts exactly where P holds, unless memory is wanting
+abbrev pub Accepts : {X : Type 0} → Type 0 → Result X FormStop → Type 0
+Accepts P (Ok _) = P
+Accepts P (Err stop) = RefusesUnless P stop
+
 -- The reader answers something that the text says, and refuses the text as one outside of its form exactly where the
 -- text says nothing. `Says` is what it is for the text to say x.
 abbrev pub Reads : {X : Type 0} → (X → Type 0) → Result X FormStop → Type 0

@@ -12,7 +12,6 @@ pub enum FormStop {
 
 impl From<AllocError> for FormStop {
     ghost use Rattle.std.specs.Prelude.{◌≡◌};
-    ghost use Rattle.bz_lines.specs.declared.form.FormStop.{FormStop};
     ghost use Rattle.bz_lines.specs.declared.form.FormStop.TheVariants.{OutOfMemory};
 
     ghost from_gives = { λ _ e. e ≡ OutOfMemory };

@@ -1,5 +1,5 @@
 //! The lines of a text that have fields.
-ghost use Rattle.std.specs.Prelude.{◌≡◌, IfOk, IsTrue, length, ◌∷◌, []};
+ghost use Rattle.std.specs.Prelude.{◌≡◌, ◌↔◌, IfOk, IsTrue, length, ◌∷◌, []};
 ghost use Rattle.std.specs.List.{slice_index_or};
 ghost use Rattle.bz_lines.specs.Lines.{line_of};
 ghost use Rattle.bz_lines.specs.FieldLists.{field as field_at};
@@ -51,7 +51,7 @@ impl<'a> Fields<'a> {
 
     /// Whether the word is the one field.
     pub fn is_only(&self, word: &[u8]) -> bool
-        ensures { IsTrue result → self.now ≡ word.now ∷ [] }
+        ensures { IsTrue result ↔ (self.now ≡ word.now ∷ []) }
     {
         self.len() == 1 && self.at(0) == word
     }

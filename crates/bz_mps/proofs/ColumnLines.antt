@@ -5,24 +5,24 @@ use Rattle.std.specs.Option.{option_map}
 use Rattle.std.proofs.lemmas.List.{append-nil}
 use Rattle.std.proofs.lemmas.List.Sums.{fold_push}
 use Rattle.bz_mps.specs.declared.model_columns.Columns.{Columns}
-use Rattle.bz_lines.specs.LinesBefore.{gathered}
+use Rattle.bz_lines.specs.LinesBefore.{Follows, gathered}
 use Rattle.bz_mps.specs.ModelText.{IsColumnLine, IsMarkerLine, IsEntryLine, columns_of, last_column, is_open, is_marker, column_name, entries_on, entries_added, integers_begun}
 use Rattle.bz_lines.specs.NameLists.{is_among, with_name, place}
-use Rattle.bz_mps.specs.ColumnReading.{IsMarked, IsEntered, IsNextColumns, AreRead}
+use Rattle.bz_mps.specs.ColumnReading.{CanBeEntered, CanBeMarked, CanBeNext, IsMarked, IsEntered, IsNextColumns, AreRead}
 use Rattle.bz_lines.specs.FieldLists.{Fields, field}
-use Rattle.bz_lines.proofs.BeforeLemmas.{follows_more, gathered_more, take_next}
+use Rattle.bz_lines.proofs.BeforeLemmas.{follows_at, follows_more, gathered_more, take_next}
 
 -- what each function of lines gives with one more line
 open_step : Bool → Fields → Bool
 open_step within l = if is_marker l then bytes_eq (field 2 l) (codes "'INTORG'") else within
 
-is_open-more : (ls : List Fields) (l : Fields) → is_open (ls ++ l ∷ []) ≡ (if is_marker l then bytes_eq (field 2 l) (codes "'INTORG'") else is_open ls)
+pub is_open-more : (ls : List Fields) (l : Fields) → is_open (ls ++ l ∷ []) ≡ (if is_marker l then bytes_eq (field 2 l) (codes "'INTORG'") else is_open ls)
 is_open-more ls l = fold_push (λ within l. if is_marker l then bytes_eq (field 2 l) (codes "'INTORG'") else within) false ls l
 
-columns_of-more : (ls : List Fields) (l : Fields) → columns_of (ls ++ l ∷ []) ≡ (if is_marker l then columns_of ls else with_name (columns_of ls) (column_name l))
+pub columns_of-more : (ls : List Fields) (l : Fields) → columns_of (ls ++ l ∷ []) ≡ (if is_marker l then columns_of ls else with_name (columns_of ls) (column_name l))
 columns_of-more ls l = fold_push (λ names l. if is_marker l then names else with_name names (column_name l)) [] ls l
 
-last_column-more : (ls : List Fields) (l : Fields) → last_column (ls ++ l ∷ []) ≡ (if is_marker l then None else Some (column_name l))
+pub last_column-more : (ls : List Fields) (l : Fields) → last_column (ls ++ l ∷ []) ≡ (if is_marker l then None else Some (column_name l))
 last_column-more ls l = fold_push (λ last l. if is_marker l then None else Some (column_name l)) None ls l
 
 -- a marker's word says whether it opens
@@ -71,3 +71,17 @@ line_more false rows ls l old new m r k = entered_more rows ls l old new m r k
 pub columns_next : (rows : List (List ℕ)) (ls : List Fields) (i : ℕ) (l : Fields) (old new : Columns) → i < length ls → l ≡ get_or ls i l
     → AreRead rows (take i ls) old → IsNextColumns rows l old new → AreRead rows (take (i + 1) ls) new
 columns_next rows ls i l old new h e r k = subst (λ ts. AreRead rows ts new) (sym (take_next ls i l h e)) (line_more (is_marker l) rows (take i ls) l old new refl r k)
+
+-- a line that is one of COLUMNS after those before it can be the next
+can_be : (b : Bool) (rows : List (List ℕ)) (ls : List Fields) (l : Fields) (old : Columns) → AreRead rows ls old → MatchBool b (IsMarkerLine ls l) (IsEntryLine rows ls l) → MatchBool b (CanBeMarked l old) (CanBeEntered rows l old)
+can_be true rows ls l old r k = record { word = k.word ∙ ap (λ b. if b then codes "'INTEND'" else codes "'INTORG'") (sym r.within) }
+can_be false rows ls l old r k = record { pairs = k.pairs; together = together_of k.together }
+  where
+    together_of : (is_among (columns_of ls) (column_name l) ≡ false) ⊎ (last_column ls ≡ Some (column_name l))
+        → (is_among old.names (column_name l) ≡ false) ⊎ (option_map (λ k. k.now) old.last ≡ Some (column_name l))
+    together_of (inl a) = inl (ap (λ ns. is_among ns (column_name l)) r.names ∙ a)
+    together_of (inr b) = inr (r.last ∙ b)
+
+pub can_be_next : (rows : List (List ℕ)) (ls : List Fields) (i : ℕ) (l : Fields) (old : Columns) → i < length ls → l ≡ get_or ls i l
+    → AreRead rows (take i ls) old → Follows (IsColumnLine rows) [] ls → CanBeNext rows l old
+can_be_next rows ls i l old h e r f = can_be (is_marker l) rows (take i ls) l old r (follows_at (IsColumnLine rows) [] ls i l h e f)

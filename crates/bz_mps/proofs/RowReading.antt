@@ -6,7 +6,7 @@ use Rattle.bz_lines.specs.LinesBefore.{Follows}
 use Rattle.bz_mps.specs.ModelText.{IsKindAndName, IsRowLine, row_name}
 use Rattle.bz_lines.specs.NameLists.{is_among, with_name}
 use Rattle.bz_lines.specs.FieldLists.{Fields}
-use Rattle.bz_lines.proofs.BeforeLemmas.{follows_more, take_next}
+use Rattle.bz_lines.proofs.BeforeLemmas.{follows_at, follows_more, take_next}
 
 pub record RowsRead (ls : List Fields) (names : List (List ℕ)) : Type 0 where
   pub lines : Follows IsRowLine [] ls
@@ -27,3 +27,12 @@ rows_more ls l names after read row new e = by (is_among names (row_name l)) ref
 pub rows_next : (ls : List Fields) (i : ℕ) (l : Fields) (names after : List (List ℕ)) → i < length ls → l ≡ get_or ls i l → RowsRead (take i ls) names → IsKindAndName l
     → true ≡ not (is_among names (row_name l)) → after ≡ with_name names (row_name l) → RowsRead (take (i + 1) ls) after
 rows_next ls i l names after h e read row new k = subst (λ ts. RowsRead ts after) (sym (take_next ls i l h e)) (rows_more (take i ls) l names after read row new k)
+
+-- a line that is none of ROWS after those before it
+pub row_refused : (ls : List Fields) (i : ℕ) (l : Fields) → i < length ls → l ≡ get_or ls i l → (IsKindAndName l → ⊥) → Follows IsRowLine [] ls → ⊥
+row_refused ls i l h e other f = other (follows_at IsRowLine [] ls i l h e f).row
+
+pub row_twice : (ls : List Fields) (i : ℕ) (l : Fields) (names : List (List ℕ)) → i < length ls → l ≡ get_or ls i l → RowsRead (take i ls) names
+    → not (is_among names (row_name l)) ≡ false → Follows IsRowLine [] ls → ⊥
+row_twice ls i l names h e read old f =
+    true≢false (sym (ap (λ ns. not (is_among ns (row_name l))) read.names_are ∙ ap not (follows_at IsRowLine [] ls i l h e f).fresh) ∙ old)

@@ -26,6 +26,18 @@ pub record IsEntered (rows : List (List ℕ)) (l : Fields) (old new : Columns) :
   pub within : new.within ≡ old.within
   pub last : option_map (λ k. k.now) new.last ≡ Some (column_name l)
 
+-- a line that can be such a marker line
+pub record CanBeMarked (l : Fields) (old : Columns) : Type 0 where
+  pub word : field 2 l ≡ (if old.within then codes "'INTEND'" else codes "'INTORG'")
+
+-- a line that can be such a line of entries
+pub record CanBeEntered (rows : List (List ℕ)) (l : Fields) (old : Columns) : Type 0 where
+  pub pairs : ArePairs rows l
+  pub together : (is_among old.names (column_name l) ≡ false) ⊎ (option_map (λ k. k.now) old.last ≡ Some (column_name l))
+
+abbrev pub CanBeNext : List (List ℕ) → Fields → Columns → Type 0
+CanBeNext rows l old = MatchBool (is_marker l) (CanBeMarked l old) (CanBeEntered rows l old)
+
 abbrev pub IsNextColumns : List (List ℕ) → Fields → Columns → Columns → Type 0
 IsNextColumns rows l old new = MatchBool (is_marker l) (IsMarked l old new) (IsEntered rows l old new)
 

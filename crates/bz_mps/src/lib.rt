@@ -1,6 +1,7 @@
 //! Models from their texts.
 #![tactic(auto)]
 
+mod laws;
 mod model_bounds;
 mod model_column_lines;
 mod model_columns;
@@ -17,4 +18,5 @@ mod model_terms;
 mod model_tests;
 mod reading;
 
+pub use laws::text_has_one_model;
 pub use reading::read_model;

@@ -1,7 +1,8 @@
 //! The columns of a model, from its text.
-ghost use Rattle.std.specs.Prelude.{◌≡◌, ◌<◌, ◌≤ℤ◌, ◌++◌, ◌∷◌, [], pos, Some, IfOk, IfSome, length, take};
-ghost use Rattle.std.specs.List.{AllZip, enumerate_from, zip, slice_index_or};
-ghost use Rattle.bz_mps.specs.ModelText.{IsColumnOf, IsUpper, IsWholeNumber, last_at as last_in, upper_of};
+ghost use Rattle.std.specs.Prelude.{◌≡◌, ◌++◌, ◌∷◌, [], IfOk, length};
+ghost use Rattle.bz_lines.specs.Reading.{Reads, ReadsAs};
+ghost use Rattle.bz_mps.specs.ModelReading.{AreColumnsOf, IsUpperBound};
+ghost use Rattle.bz_mps.specs.ModelText.{IsColumnOf, IsWholeNumber, last_at as last_in};
 
 use bz_lines::{FormStop, Names};
 use bz_model::Column;
@@ -9,7 +10,7 @@ use bz_num::{Frac, Name};
 use std::alloc::{AllocError, Global};
 
 /// The number of the last pair at a place.
-pub(crate) fn last_at(place: usize, pairs: &[(usize, i128)]) -> Option<i128>
+pub(crate) fn last_at(place: usize, pairs: &[(usize, i64)]) -> Option<i64>
     ensures { result ≡ last_in place pairs.now }
 {
     let mut last = None;
@@ -21,17 +22,14 @@ pub(crate) fn last_at(place: usize, pairs: &[(usize, i128)]) -> Option<i128>
     last
 }
 
-/// The fraction of a whole number that is not the least of its type.
-fn whole(number: i128) -> Option<Frac>
-    ensures { IfSome result (IsWholeNumber number) }
+/// The fraction of a whole number.
+fn whole(number: i64) -> Frac
+    ensures { IsWholeNumber number result }
 {
-    if number == i128::MIN {
-        return None;
-    }
-    Some(Frac {
-        num: number,
+    Frac {
+        num: i128::from(number),
         den: 1,
-    })
+    }
 }
 
 /// The name of these bytes.
@@ -42,26 +40,19 @@ pub(crate) fn copy_name(alloc: Global, bytes: &[u8]) -> Result<Name, AllocError>
 }
 
 /// The upper bound of a column whose last bound is this.
-fn upper(integer: bool, bound: Option<i128>) -> Result<Option<Frac>, FormStop>
-    ensures upper { IfOk result (IsUpper (upper_of integer bound)) }
-    ensures not_negative { IfOk result (λ _. IfSome bound (λ u. pos 0 ≤ℤ u)) }
+fn upper(integer: bool, bound: Option<i64>) -> Result<Option<Frac>, FormStop>
+    ensures { Reads (IsUpperBound integer bound) result }
 {
     match bound {
-        Some(number) => {
-            if number < 0 {
-                return Err(FormStop::Outside);
-            }
-            match whole(number) {
-                Some(fraction) => Ok(Some(fraction)),
-                None => Err(FormStop::Outside),
-            }
+        Some(number) => if number < 0 {
+            Err(FormStop::Outside)
+        } else {
+            Ok(Some(whole(number)))
         },
-        None => {
-            if integer {
-                Ok(Some(Frac { num: 1, den: 1 }))
-            } else {
-                Ok(None)
-            }
+        None => if integer {
+            Ok(Some(whole(1)))
+        } else {
+            Ok(None)
         },
     }
 }
@@ -72,16 +63,16 @@ fn column_at(
     place: usize,
     name: &[u8],
     integer: bool,
-    bounds: &[(usize, i128)],
+    bounds: &[(usize, i64)],
 ) -> Result<Column, FormStop>
-    ensures { IfOk result (IsColumnOf bounds.now (place, (name.now, integer))) }
+    ensures { Reads (IsColumnOf bounds.now (place, (name.now, integer))) result }
 {
     let upper = upper(integer, last_at(place, bounds))?;
     let name = copy_name(alloc, name)?;
     Ok(Column {
         name,
         integer,
-        lower: Some(Frac { num: 0, den: 1 }),
+        lower: Some(whole(0)),
         upper,
     })
 }
@@ -99,9 +90,10 @@ pub(crate) fn columns_of(
     alloc: Global,
     names: &Names,
     integers: &[bool],
-    bounds: &[(usize, i128)],
+    bounds: &[(usize, i64)],
 ) -> Result<Vec<Column>, FormStop>
-    ensures { IfOk result (λ columns. AllZip (IsColumnOf bounds.now) (enumerate_from 0 (zip names.now integers.now)) columns.items) }
+    ensures columns { ReadsAs (λ columns. columns.items) (AreColumnsOf names.now integers.now bounds.now) result }
+    ensures count { IfOk result (λ columns. length columns.items ≡ length names.now) }
 {
     if names.len() != integers.len() {
         return Err(FormStop::Outside);

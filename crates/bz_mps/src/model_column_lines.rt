@@ -1,8 +1,10 @@
 //! The lines of the section COLUMNS, one after another.
-ghost use Rattle.std.specs.Prelude.{◌≡◌, ◌⊎◌, ◌++◌, ◌∷◌, [], IfOk, IsTrue, true, false, Some, if◌then◌else◌};
+ghost use Rattle.std.specs.Prelude.{◌≡◌, ◌↔◌, ◌⊎◌, ◌++◌, ◌∷◌, [], IfOk, IsTrue, true, false, Some, if◌then◌else◌};
 ghost use Rattle.std.specs.Option.{option_map};
-ghost use Rattle.bz_mps.specs.ColumnReading.{AreRead, IsEntered, IsMarked, IsNextColumns};
-ghost use Rattle.bz_lines.specs.NameLists.{is_among, with_name};
+ghost use Rattle.bz_lines.specs.LinesBefore.{Follows};
+ghost use Rattle.bz_lines.specs.Reading.{Accepts};
+ghost use Rattle.bz_mps.specs.ColumnReading.{AreRead, CanBeEntered, CanBeMarked, CanBeNext, IsEntered, IsMarked, IsNextColumns};
+ghost use Rattle.bz_mps.specs.ModelText.{IsColumnLine};
 
 use crate::model_columns::{Columns, is_marker, push_entries};
 use bz_lines::{Fields, FormStop, Names};
@@ -10,7 +12,8 @@ use std::alloc::{AllocError, Global};
 
 /// Reads a marker line.
 fn mark<'a>(columns: Columns<'a>, line: &Fields<'a>) -> Result<Columns<'a>, FormStop>
-    ensures { IfOk result (IsMarked line.now columns.entry) }
+    ensures marked { IfOk result (IsMarked line.now columns.entry) }
+    ensures can { Accepts (CanBeMarked line.now columns.entry) result }
 {
     let Columns {
         names,
@@ -48,7 +51,7 @@ fn push_integer(integers: &mut Vec<bool>, new: bool, within: bool) -> Result<(),
 
 /// Whether a column is new or that of the last line.
 fn is_together(new: bool, last: Option<&[u8]>, name: &[u8]) -> bool
-    ensures { IsTrue result → (new ≡ true) ⊎ (option_map (λ k. k.now) last.entry ≡ Some name.now) }
+    ensures { IsTrue result ↔ ((new ≡ true) ⊎ (option_map (λ k. k.now) last.entry ≡ Some name.now)) }
 {
     match last {
         Some(last) => new || last == name,
@@ -58,7 +61,8 @@ fn is_together(new: bool, last: Option<&[u8]>, name: &[u8]) -> bool
 
 /// Reads a line of entries.
 fn enter<'a>(columns: Columns<'a>, rows: &Names, line: &Fields<'a>) -> Result<Columns<'a>, FormStop>
-    ensures { IfOk result (IsEntered rows.now line.now columns.entry) }
+    ensures entered { IfOk result (IsEntered rows.now line.now columns.entry) }
+    ensures can { Accepts (CanBeEntered rows.now line.now columns.entry) result }
 {
     let Columns {
         mut names,
@@ -89,7 +93,8 @@ fn read_line<'a>(
     rows: &Names,
     line: &Fields<'a>,
 ) -> Result<Columns<'a>, FormStop>
-    ensures { IfOk result (IsNextColumns rows.now line.now columns.entry) }
+    ensures next { IfOk result (IsNextColumns rows.now line.now columns.entry) }
+    ensures can { Accepts (CanBeNext rows.now line.now columns.entry) result }
 {
     if is_marker(line) {
         mark(columns, line)
@@ -104,7 +109,8 @@ pub(crate) fn read_columns<'a>(
     rows: &Names,
     lines: &[Fields<'a>],
 ) -> Result<Columns<'a>, FormStop>
-    ensures { IfOk result (AreRead rows.now lines.now) }
+    ensures read { IfOk result (AreRead rows.now lines.now) }
+    ensures lines { Accepts (Follows (IsColumnLine rows.now) [] lines.now) result }
 {
     let mut columns = Columns {
         names: Names::new(alloc),

@@ -1,9 +1,9 @@
 //! The section COLUMNS of a model's text.
-ghost use Rattle.std.specs.Prelude.{◌≡◌, ◌+◌, ◌<◌, ◌^◌, ◌++◌, ◌∷◌, [], IfSome, IfOk, OnOk, IsTrue, List, ℕ, true, false};
-ghost use Rattle.bz_lines.specs.LinesBefore.{Follows, gathered};
-ghost use Rattle.bz_mps.specs.ModelText.{IsNumberAt, ArePairs, IsColumnLine, entries_added, entries_on, integers_begun, is_marker as marker_test, is_open, columns_of, number_of};
+ghost use Rattle.std.specs.Prelude.{◌≡◌, ◌+◌, ◌<◌, ◌^◌, ◌++◌, ◌∷◌, [], IfSome, IfNone, IfOk};
+ghost use Rattle.bz_lines.specs.FieldLists.{field};
 ghost use Rattle.bz_lines.specs.NameLists.{place as place_in};
-ghost use Rattle.bz_lines.specs.FieldLists.{Fields as FieldList, field};
+ghost use Rattle.bz_lines.specs.Reading.{Accepts};
+ghost use Rattle.bz_mps.specs.ModelText.{IsNumberAt, ArePairs, entries_on, is_marker as marker_test, number_of};
 
 use bz_lines::{Fields, FormStop, Names, small_number};
 use std::alloc::{AllocError, Global};
@@ -13,14 +13,14 @@ use std::alloc::{AllocError, Global};
 pub(crate) struct Entry {
     pub column: usize,
     pub row: usize,
-    pub number: i128,
+    pub number: i64,
 }
 
 /// A name by its place, and a number.
 #[derive(Clone, Copy, Debug)]
 pub(crate) struct Pair {
     pub place: usize,
-    pub number: i128,
+    pub number: i64,
 }
 
 /// The pair of the fields from `at` on, if these are one of the names and a number.
@@ -29,10 +29,14 @@ pub(crate) fn pair_at(names: &Names, line: &Fields, at: usize) -> Option<Pair>
     ensures there { IfSome result (λ p. IsNumberAt names.now (field at line.now) (field (at + 1) line.now)) }
     ensures place { IfSome result (λ p. p.place ≡ place_in names.now (field at line.now)) }
     ensures number { IfSome result (λ p. p.number ≡ number_of (field (at + 1) line.now)) }
+    ensures none { IfNone result (IsNumberAt names.now (field at line.now) (field (at + 1) line.now) → ⊥) }
 {
     let place = names.find(line.at(at))?;
     let number = small_number(line.at(at + 1))?;
-    Some(Pair { place, number })
+    Some(Pair {
+        place,
+        number: number as i64,
+    })
 }
 
 /// Whether the line is a marker line.
@@ -61,7 +65,7 @@ pub(crate) fn push_entries(
     line: &Fields,
     entries: &mut Vec<Entry>,
 ) -> Result<(), FormStop>
-    ensures pairs { IfOk result (λ _. ArePairs rows.now line.now) }
+    ensures pairs { Accepts (ArePairs rows.now line.now) result }
     ensures added { IfOk result (λ _. entries.new.items ≡ entries.old.items ++ entries_on rows.now column line.now) }
 {
     let two = line.len() == 5;

@@ -1,6 +1,7 @@
 //! What the sections of a model's text say.
 ghost use Rattle.std.specs.Prelude.{◌≡◌, IfOk, []};
 ghost use Rattle.std.specs.Option.{option_map, unwrap_or};
+ghost use Rattle.bz_lines.specs.Reading.{Accepts};
 ghost use Rattle.bz_mps.specs.ModelText.{AreLines, facts_of};
 ghost use Rattle.bz_mps.specs.ReadSections.{facts_held, sections_of};
 
@@ -26,13 +27,13 @@ fn lines_of<'b, 'a>(section: &'b Option<Vec<Fields<'a>>>) -> &'b [Fields<'a>]
 #[derive(Drop)]
 pub(crate) struct Held<'a> {
     pub columns: Columns<'a>,
-    pub right_sides: Vec<(usize, i128)>,
-    pub bounds: Vec<(usize, i128)>,
+    pub right_sides: Vec<(usize, i64)>,
+    pub bounds: Vec<(usize, i64)>,
 }
 
 /// Reads the lines of the sections.
 pub(crate) fn read_facts<'a>(alloc: Global, sections: &Sections<'a>) -> Result<Held<'a>, FormStop>
-    ensures lines { IfOk result (λ _. AreLines (sections_of sections.now)) }
+    ensures lines { Accepts (AreLines (sections_of sections.now)) result }
     ensures facts { IfOk result (λ h. facts_held sections.now.rows.items h ≡ facts_of (sections_of sections.now)) }
 {
     let rows = read_rows(alloc, sections.rows.as_slice())?;

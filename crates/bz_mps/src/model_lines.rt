@@ -1,9 +1,10 @@
 //! The lines of a model's text, and its sections.
-ghost use Rattle.std.specs.Prelude.{◌≡◌, ◌++◌, ◌∷◌, [], IfOk, IfSome, IfNone, IsTrue, true, false, map, take, not, ◌≤◌, length, codes, nat_lt, if◌then◌else◌};
-ghost use Rattle.std.specs.List.{AllByRecursion};
-ghost use Rattle.bz_lines.specs.Lines.{IsPlain, line_of as line_in, lines_with_fields};
-ghost use Rattle.bz_mps.specs.Sections.{data_lines, header as header_of, header_if_there};
+ghost use Rattle.std.specs.Prelude.{◌≡◌, ◌↔◌, ◌++◌, ◌∷◌, [], IfOk, IfSome, IfNone, IsTrue, true, false, map, length, codes, nat_lt, if◌then◌else◌};
 ghost use Rattle.bz_lines.specs.FieldLists.{field};
+ghost use Rattle.bz_lines.specs.Lines.{line_of as line_in};
+ghost use Rattle.bz_lines.specs.Reading.{ReadsAs};
+ghost use Rattle.bz_mps.specs.LineReading.{AreData, AreHead, BeginsNoData, BeginsWith, IsNameIfThere, end_line};
+ghost use Rattle.bz_mps.specs.Sections.{header as header_of};
 
 use bz_lines::{Fields, FormStop, is_blank, is_plain};
 use std::alloc::{AllocError, Global};
@@ -29,6 +30,7 @@ impl<'a> Model for TextLine<'a> {
 fn take_data_line<'a>(lines: &mut VecDeque<TextLine<'a>>) -> Option<Fields<'a>>
     ensures some { IfSome result (λ fs. lines.old.items ≡ (record { header = false; fields = fs }) ∷ lines.new.items) }
     ensures none { IfNone result (lines.new.items ≡ lines.old.items) }
+    ensures ended { IfNone result (BeginsNoData lines.old.items) }
 {
     match lines.front() {
         Some(line) => {
@@ -47,7 +49,7 @@ pub(crate) fn take_data<'a>(
     alloc: Global,
     lines: &mut VecDeque<TextLine<'a>>,
 ) -> Result<Vec<Fields<'a>>, AllocError>
-    ensures { IfOk result (λ found. lines.old.items ≡ data_lines found.items ++ lines.new.items) }
+    ensures { IfOk result (λ found. AreData lines.old.items found.items lines.new.items) }
 {
     let mut found = Vec::new(alloc);
     while let Some(fields) = take_data_line(lines) {
@@ -58,7 +60,7 @@ pub(crate) fn take_data<'a>(
 
 /// Whether a line is the header of the one word.
 fn is_header(line: &TextLine, word: &[u8]) -> bool
-    ensures { IsTrue result → line.now ≡ (record { header = true; fields = word.now ∷ [] }) }
+    ensures { IsTrue result ↔ (line.now ≡ (record { header = true; fields = word.now ∷ [] })) }
 {
     line.head && line.fields.is_only(word)
 }
@@ -67,6 +69,7 @@ fn is_header(line: &TextLine, word: &[u8]) -> bool
 pub(crate) fn take_header(lines: &mut VecDeque<TextLine>, word: &[u8]) -> bool
     ensures there { IsTrue result → lines.old.items ≡ header_of (word.now ∷ []) ++ lines.new.items }
     ensures missing { result ≡ false → lines.new.items ≡ lines.old.items }
+    ensures absent { result ≡ false → BeginsWith (header_of (word.now ∷ [])) lines.old.items → ⊥ }
 {
     let there = match lines.front() {
         Some(line) => is_header(line, word),
@@ -78,18 +81,26 @@ pub(crate) fn take_header(lines: &mut VecDeque<TextLine>, word: &[u8]) -> bool
     there
 }
 
+/// Whether the header ENDATA is the one line left.
+pub(crate) fn is_end(lines: &VecDeque<TextLine>) -> bool
+    ensures { IsTrue result ↔ (lines.now.items ≡ end_line ∷ []) }
+{
+    match lines.front() {
+        Some(line) => lines.len() == 1 && is_header(line, b"ENDATA"),
+        None => false,
+    }
+}
+
 /// Whether a line is the header NAME.
 fn is_name(line: &TextLine) -> bool
-    ensures head { IsTrue result → line.now.header ≡ true }
-    ensures word { IsTrue result → field 0 line.now.fields ≡ codes "NAME" }
+    ensures { IsTrue result ↔ ((line.now.header ≡ true) × (field 0 line.now.fields ≡ codes "NAME")) }
 {
     line.head && line.fields.at(0) == b"NAME".as_slice()
 }
 
 /// Takes the header NAME, where it is the next line.
 pub(crate) fn take_name<'a>(lines: &mut VecDeque<TextLine<'a>>) -> Option<Fields<'a>>
-    ensures named { IfSome result (λ fs. field 0 fs ≡ codes "NAME") }
-    ensures lines { lines.old.items ≡ header_if_there result ++ lines.new.items }
+    ensures { IsNameIfThere lines.old.items result lines.new.items }
 {
     match lines.front() {
         Some(line) => {
@@ -125,21 +136,14 @@ fn push_line<'a>(lines: &mut VecDeque<TextLine<'a>>, line: TextLine<'a>) -> Resu
     Ok(())
 }
 
-/// The lines of a text up to ENDATA that have fields.
-#[derive(Drop)]
-pub(crate) struct Head<'a> {
-    pub lines: VecDeque<TextLine<'a>>,
-    /// How many lines there are, with those that have no fields.
-    pub count: usize,
-}
-
-/// The lines up to the header ENDATA, if there is no comment and no refused byte in them.
-pub(crate) fn read_head<'a>(alloc: Global, texts: &[&'a [u8]]) -> Result<Head<'a>, FormStop>
-    ensures plain { IfOk result (λ head. AllByRecursion IsPlain (map (λ t. t.now) (take head.count texts.now))) }
-    ensures lines { IfOk result (λ head. head.lines.items ≡ lines_with_fields (map (λ t. t.now) (take head.count texts.now))) }
+/// The lines that have fields up to the header ENDATA, if there is no comment and no refused byte in them.
+pub(crate) fn read_head<'a>(
+    alloc: Global,
+    texts: &[&'a [u8]],
+) -> Result<VecDeque<TextLine<'a>>, FormStop>
+    ensures { ReadsAs (λ lines. lines.items) (AreHead (map (λ t. t.now) texts.now)) result }
 {
     let mut lines = VecDeque::new(alloc);
-    let mut count: usize = 0;
     for text in texts {
         if !is_plain(text) {
             return Err(FormStop::Outside);
@@ -147,9 +151,8 @@ pub(crate) fn read_head<'a>(alloc: Global, texts: &[&'a [u8]]) -> Result<Head<'a
         let line = line_of(alloc, text)?;
         let last = is_header(&line, b"ENDATA");
         push_line(&mut lines, line)?;
-        count += 1;
         if last {
-            return Ok(Head { lines, count });
+            return Ok(lines);
         }
     }
     Err(FormStop::Outside)

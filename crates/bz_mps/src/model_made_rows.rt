@@ -1,13 +1,14 @@
 //! The rows of a model, from its text.
 ghost use Rattle.std.specs.Prelude.{◌≡◌, ◌++◌, ◌∷◌, [], IfOk};
 ghost use Rattle.std.specs.List.{AllByRecursion, AllZip};
-ghost use Rattle.bz_algebra.specs.Numbers.{IsNarrow};
 ghost use Rattle.bz_algebra.specs.Sums.{AllBelow};
-ghost use Rattle.bz_mps.specs.ModelText.{IsRowOf, constraints, is_kind as kind_test, right_side};
+ghost use Rattle.bz_lines.specs.Reading.{Accepts};
+ghost use Rattle.bz_mps.specs.ModelReading.{AreFitRows, IsFitRow};
+ghost use Rattle.bz_mps.specs.ModelText.{IsRowOf, constraints, is_kind as kind_test, right_side, terms_at};
 
 use crate::model_bounds::{copy_name, last_at};
 use crate::model_columns::Entry;
-use crate::model_terms::terms_of;
+use crate::model_terms::{pick_terms, row_of_terms};
 use bz_lines::{Fields, FormStop};
 use bz_model::Row;
 use std::alloc::{AllocError, Global};
@@ -20,18 +21,10 @@ pub(crate) fn is_kind(line: &Fields, kind: &[u8]) -> bool
 }
 
 /// The right side of a row.
-pub(crate) fn side_at(place: usize, sides: &[(usize, i128)]) -> Result<i128, FormStop>
-    ensures side { IfOk result (λ side. side ≡ right_side place sides.now) }
-    ensures narrow { IfOk result IsNarrow }
+pub(crate) fn side_at(place: usize, sides: &[(usize, i64)]) -> i64
+    ensures { result ≡ right_side place sides.now }
 {
-    match last_at(place, sides) {
-        Some(side) => if side == i128::MIN {
-            Err(FormStop::Outside)
-        } else {
-            Ok(side)
-        },
-        None => Ok(0),
-    }
+    last_at(place, sides).unwrap_or(0)
 }
 
 /// The row at a place, whose columns are below the count.
@@ -39,15 +32,17 @@ fn row_at(
     alloc: Global,
     place: usize,
     line: &Fields,
-    count: usize,
+    count: u32,
     entries: &[Entry],
-    sides: &[(usize, i128)],
+    sides: &[(usize, i64)],
 ) -> Result<Row, FormStop>
     ensures row { IfOk result (IsRowOf entries.now sides.now (place, line.now)) }
     ensures below { IfOk result (λ row. AllBelow count row.terms) }
+    ensures fit { Accepts (IsFitRow count (terms_at place entries.now)) result }
 {
-    let terms = terms_of(alloc, place, count, entries)?;
-    let side = side_at(place, sides)?;
+    let terms = pick_terms(alloc, place, entries)?;
+    let terms = row_of_terms(alloc, count, terms.as_slice())?;
+    let side = i128::from(side_at(place, sides));
     let name = copy_name(alloc, line.at(1))?;
     let lower = if is_kind(line, b"L") {
         None
@@ -79,12 +74,13 @@ fn push_row(rows: &mut Vec<Row>, row: Row) -> Result<(), AllocError>
 pub(crate) fn rows_of(
     alloc: Global,
     lines: &[Fields],
-    count: usize,
+    count: u32,
     entries: &[Entry],
-    sides: &[(usize, i128)],
+    sides: &[(usize, i64)],
 ) -> Result<Vec<Row>, FormStop>
     ensures rows { IfOk result (λ rows. AllZip (IsRowOf entries.now sides.now) (constraints lines.now) rows.items) }
     ensures below { IfOk result (λ rows. AllByRecursion (λ row. AllBelow count row.terms) rows.items) }
+    ensures fit { Accepts (AreFitRows count entries.now lines.now) result }
 {
     let mut rows = Vec::new(alloc);
     for place in 0..lines.len() {

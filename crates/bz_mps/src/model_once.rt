@@ -1,5 +1,5 @@
 //! Whether no place of a model's text is given a number twice.
-ghost use Rattle.std.specs.Prelude.{◌≡◌, IfOk, IsTrue, map, nat_eq};
+ghost use Rattle.std.specs.Prelude.{◌≡◌, ◌↔◌, IfOk, IsTrue, map, nat_eq};
 ghost use Rattle.std.specs.List.{IsDistinct};
 ghost use Rattle.bz_mps.specs.ModelText.{same_place};
 
@@ -9,7 +9,7 @@ use std::alloc::{AllocError, Global};
 
 /// Whether no column has a row twice.
 pub(crate) fn entries_once(alloc: Global, entries: &[Entry]) -> Result<bool, AllocError>
-    ensures { IfOk result (λ once. IsTrue once → IsDistinct same_place (map (λ e. (e.column, e.row)) entries.now)) }
+    ensures { IfOk result (λ once. IsTrue once ↔ IsDistinct same_place (map (λ e. (e.column, e.row)) entries.now)) }
 {
     let mut seen: IndexSet<(usize, usize)> = IndexSet::new(alloc);
     for entry in entries {
@@ -21,8 +21,8 @@ pub(crate) fn entries_once(alloc: Global, entries: &[Entry]) -> Result<bool, All
 }
 
 /// Whether no place is there twice.
-pub(crate) fn places_once(alloc: Global, pairs: &[(usize, i128)]) -> Result<bool, AllocError>
-    ensures { IfOk result (λ once. IsTrue once → IsDistinct nat_eq (map (λ s. s.0) pairs.now)) }
+pub(crate) fn places_once(alloc: Global, pairs: &[(usize, i64)]) -> Result<bool, AllocError>
+    ensures { IfOk result (λ once. IsTrue once ↔ IsDistinct nat_eq (map (λ s. s.0) pairs.now)) }
 {
     let mut seen: IndexSet<usize> = IndexSet::new(alloc);
     for pair in pairs {

@@ -1,6 +1,7 @@
 //! The section ROWS of a model's text.
 ghost use Rattle.std.specs.Prelude.{◌≡◌, ◌↔◌, IfOk, IsTrue, map, []};
 ghost use Rattle.bz_lines.specs.LinesBefore.{Follows};
+ghost use Rattle.bz_lines.specs.Reading.{Accepts};
 ghost use Rattle.bz_mps.specs.ModelText.{IsKindAndName, IsRowLine, row_name};
 
 use bz_lines::{Fields, FormStop, Names};
@@ -20,7 +21,7 @@ fn is_kind_and_name(line: &Fields) -> bool
 
 /// The names of the rows on the lines of ROWS, those of kind N too.
 pub(crate) fn read_rows<'a>(alloc: Global, lines: &[Fields<'a>]) -> Result<Names<'a>, FormStop>
-    ensures lines { IfOk result (λ _. Follows IsRowLine [] lines.now) }
+    ensures lines { Accepts (Follows IsRowLine [] lines.now) result }
     ensures names { IfOk result (λ names. names ≡ map row_name lines.now) }
 {
     let mut names = Names::new(alloc);

@@ -1,11 +1,12 @@
 //! The sections of a model's text.
-ghost use Rattle.std.specs.Prelude.{◌≡◌, ◌++◌, Some, IfOk, IfSome, codes};
+ghost use Rattle.std.specs.Prelude.{[], ◌∷◌, IfOk};
 ghost use Rattle.std.specs.Option.{option_map};
+ghost use Rattle.bz_lines.specs.Reading.{Accepts, ReadsAs};
+ghost use Rattle.bz_mps.specs.LineReading.{AreLinesOf, BeginsWith, IsSection, IsSectionIfThere};
 ghost use Rattle.bz_mps.specs.ReadSections.{sections_of};
-ghost use Rattle.bz_mps.specs.Sections.{HasSections, section, section_if_there, section_lines};
-ghost use Rattle.bz_lines.specs.FieldLists.{field};
+ghost use Rattle.bz_mps.specs.Sections.{HasSections, header};
 
-use crate::model_lines::{Head, TextLine, read_head, take_data, take_header, take_name};
+use crate::model_lines::{TextLine, is_end, read_head, take_data, take_header, take_name};
 use bz_lines::{Fields, FormStop, text_lines};
 use std::alloc::{AllocError, Global};
 use std::collections::VecDeque;
@@ -16,7 +17,8 @@ fn take_section<'a>(
     lines: &mut VecDeque<TextLine<'a>>,
     word: &[u8],
 ) -> Result<Vec<Fields<'a>>, FormStop>
-    ensures { IfOk result (λ found. lines.old.items ≡ section word.now found.items ++ lines.new.items) }
+    ensures taken { IfOk result (λ found. IsSection word.now lines.old.items found.items lines.new.items) }
+    ensures there { Accepts (BeginsWith (header (word.now ∷ [])) lines.old.items) result }
 {
     if !take_header(lines, word) {
         return Err(FormStop::Outside);
@@ -30,7 +32,7 @@ fn take_section_if_there<'a>(
     lines: &mut VecDeque<TextLine<'a>>,
     word: &[u8],
 ) -> Result<Option<Vec<Fields<'a>>>, AllocError>
-    ensures { IfOk result (λ found. lines.old.items ≡ section_if_there word.now (option_map (λ v. v.items) found) ++ lines.new.items) }
+    ensures { IfOk result (λ found. IsSectionIfThere word.now lines.old.items (option_map (λ v. v.items) found) lines.new.items) }
 {
     if !take_header(lines, word) {
         return Ok(None);
@@ -50,19 +52,16 @@ pub(crate) struct Sections<'a> {
 }
 
 /// The sections of these lines.
-fn take_sections<'a>(
-    alloc: Global,
-    lines: &mut VecDeque<TextLine<'a>>,
-) -> Result<Sections<'a>, FormStop>
-    ensures named { IfOk result (λ s. IfSome s.name (λ fs. field 0 fs ≡ codes "NAME")) }
-    ensures lines { IfOk result (λ s. lines.old.items ≡ section_lines (sections_of s) ++ lines.new.items) }
+fn take_sections<'a>(alloc: Global, lines: VecDeque<TextLine<'a>>) -> Result<Sections<'a>, FormStop>
+    ensures { ReadsAs sections_of (AreLinesOf lines.entry.items) result }
 {
-    let name = take_name(lines);
-    let rows = take_section(alloc, lines, b"ROWS")?;
-    let columns = take_section(alloc, lines, b"COLUMNS")?;
-    let right_sides = take_section_if_there(alloc, lines, b"RHS")?;
-    let bounds = take_section_if_there(alloc, lines, b"BOUNDS")?;
-    if !take_header(lines, b"ENDATA") {
+    let mut lines = lines;
+    let name = take_name(&mut lines);
+    let rows = take_section(alloc, &mut lines, b"ROWS")?;
+    let columns = take_section(alloc, &mut lines, b"COLUMNS")?;
+    let right_sides = take_section_if_there(alloc, &mut lines, b"RHS")?;
+    let bounds = take_section_if_there(alloc, &mut lines, b"BOUNDS")?;
+    if !is_end(&lines) {
         return Err(FormStop::Outside);
     }
     Ok(Sections {
@@ -76,16 +75,10 @@ fn take_sections<'a>(
 
 /// The sections of a text.
 pub(crate) fn read_sections<'a>(alloc: Global, text: &'a [u8]) -> Result<Sections<'a>, FormStop>
-    ensures { IfOk result (λ s. HasSections text.now (sections_of s)) }
+    ensures { ReadsAs sections_of (HasSections text.now) result }
 {
     let texts = text_lines(alloc, text)?;
-    let Head {
-        mut lines,
-        count: _,
-    } = read_head(alloc, texts.as_slice())?;
-    let sections = take_sections(alloc, &mut lines)?;
-    if !lines.is_empty() {
-        return Err(FormStop::Outside);
-    }
+    let lines = read_head(alloc, texts.as_slice())?;
+    let sections = take_sections(alloc, lines)?;
     Ok(sections)
 }

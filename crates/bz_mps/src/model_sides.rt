@@ -1,6 +1,7 @@
 //! The sections RHS and BOUNDS of a model's text.
 ghost use Rattle.std.specs.Prelude.{◌≡◌, ◌++◌, ◌∷◌, [], IfOk, if◌then◌else◌};
 ghost use Rattle.std.specs.List.{AllByRecursion};
+ghost use Rattle.bz_lines.specs.Reading.{Accepts};
 ghost use Rattle.bz_mps.specs.ModelText.{ArePairs, IsBoundLine, IsRightSideLine, bounds_of, is_own_bound, is_own_right_side, number_of, right_sides_of, right_sides_on, set_of_bounds, set_of_right_sides};
 ghost use Rattle.bz_lines.specs.NameLists.{place as place_in};
 ghost use Rattle.bz_lines.specs.FieldLists.{field};
@@ -10,7 +11,7 @@ use bz_lines::{Fields, FormStop, Names};
 use std::alloc::{AllocError, Global};
 
 /// Adds a pair at the end.
-fn push_pair(pairs: &mut Vec<(usize, i128)>, pair: Pair) -> Result<(), AllocError>
+fn push_pair(pairs: &mut Vec<(usize, i64)>, pair: Pair) -> Result<(), AllocError>
     ensures { IfOk result (λ _. pairs.new.items ≡ pairs.old.items ++ (pair.place, pair.number) ∷ []) }
 {
     pairs.push((pair.place, pair.number))?;
@@ -21,9 +22,9 @@ fn push_pair(pairs: &mut Vec<(usize, i128)>, pair: Pair) -> Result<(), AllocErro
 fn push_right_sides(
     rows: &Names,
     line: &Fields,
-    sides: &mut Vec<(usize, i128)>,
+    sides: &mut Vec<(usize, i64)>,
 ) -> Result<(), FormStop>
-    ensures pairs { IfOk result (λ _. ArePairs rows.now line.now) }
+    ensures pairs { Accepts (ArePairs rows.now line.now) result }
     ensures added { IfOk result (λ _. sides.new.items ≡ sides.old.items ++ right_sides_on rows.now line.now) }
 {
     let two = line.len() == 5;
@@ -44,9 +45,9 @@ fn read_right_side(
     rows: &Names,
     set: &[u8],
     line: &Fields,
-    sides: &mut Vec<(usize, i128)>,
+    sides: &mut Vec<(usize, i64)>,
 ) -> Result<(), FormStop>
-    ensures line { IfOk result (λ _. IsRightSideLine rows.now set.now line.now) }
+    ensures line { Accepts (IsRightSideLine rows.now set.now line.now) result }
     ensures added { IfOk result (λ _. sides.new.items ≡ sides.old.items ++ (if is_own_right_side set.now line.now then right_sides_on rows.now line.now else [])) }
 {
     if line.at(0) == set {
@@ -73,8 +74,8 @@ pub(crate) fn read_right_sides(
     alloc: Global,
     rows: &Names,
     lines: &[Fields],
-) -> Result<Vec<(usize, i128)>, FormStop>
-    ensures lines { IfOk result (λ _. AllByRecursion (IsRightSideLine rows.now (set_of_right_sides lines.now)) lines.now) }
+) -> Result<Vec<(usize, i64)>, FormStop>
+    ensures lines { Accepts (AllByRecursion (IsRightSideLine rows.now (set_of_right_sides lines.now)) lines.now) result }
     ensures facts { IfOk result (λ sides. sides.items ≡ right_sides_of rows.now (set_of_right_sides lines.now) lines.now) }
 {
     let set = right_side_set(lines);
@@ -90,9 +91,9 @@ fn read_bound(
     columns: &Names,
     set: &[u8],
     line: &Fields,
-    bounds: &mut Vec<(usize, i128)>,
+    bounds: &mut Vec<(usize, i64)>,
 ) -> Result<(), FormStop>
-    ensures line { IfOk result (λ _. IsBoundLine columns.now set.now line.now) }
+    ensures line { Accepts (IsBoundLine columns.now set.now line.now) result }
     ensures added { IfOk result (λ _. bounds.new.items ≡ bounds.old.items ++ (if is_own_bound set.now line.now then (place_in columns.now (field 2 line.now), number_of (field 3 line.now)) ∷ [] else [])) }
 {
     if line.len() != 4 || line.at(0) != b"UP".as_slice() {
@@ -121,8 +122,8 @@ pub(crate) fn read_bounds(
     alloc: Global,
     columns: &Names,
     lines: &[Fields],
-) -> Result<Vec<(usize, i128)>, FormStop>
-    ensures lines { IfOk result (λ _. AllByRecursion (IsBoundLine columns.now (set_of_bounds lines.now)) lines.now) }
+) -> Result<Vec<(usize, i64)>, FormStop>
+    ensures lines { Accepts (AllByRecursion (IsBoundLine columns.now (set_of_bounds lines.now)) lines.now) result }
     ensures facts { IfOk result (λ bounds. bounds.items ≡ bounds_of columns.now (set_of_bounds lines.now) lines.now) }
 {
     let set = bound_set(lines);

@@ -1,5 +1,6 @@
 //! Reading a model's text in its first form.
-ghost use Rattle.std.specs.Prelude.{◌≡◌, ◌≤◌, IfOk, length};
+ghost use Rattle.std.specs.Prelude.{◌≤◌, IfOk, length};
+ghost use Rattle.bz_lines.specs.Reading.{Reads};
 ghost use Rattle.bz_model.specs.Strict.{HasItsColumns};
 ghost use Rattle.bz_mps.specs.ModelText.{IsModelText};
 
@@ -10,9 +11,9 @@ use bz_lines::FormStop;
 use bz_model::Model;
 use std::alloc::Global;
 
-/// Reads a model's text. `Outside` where it is not of the first form; no clause says that each text of the form is read.
+/// Reads a model's text. `Outside` exactly where it is the text of no model.
 pub fn read_model(alloc: Global, text: &[u8]) -> Result<Model, FormStop>
-    ensures reads { IfOk result (IsModelText text.now) }
+    ensures reads { Reads (IsModelText text.now) result }
     ensures columns { IfOk result HasItsColumns }
     ensures few { IfOk result (λ m. length m.columns ≤ 2048) }
 {

@@ -1,7 +1,10 @@
-use Rattle.std.proofs.Common.{rules, arith, false, ◌≡◌, subst, get_or, length, take, List, ℕ}
+use Rattle.std.proofs.Common.{rules, arith, sym, false, ◌≡◌, subst, get_or, length, take, List, ℕ}
 use Rattle.std.specs.List.{AllZip, enumerate_from, zip}
+use Rattle.bz_model.specs.declared.records.Column.{Column}
 use Rattle.bz_mps.specs.ModelText.{IsColumnOf}
-use Rattle.bz_mps.proofs.ModelColumns.{columns_step, columns_end}
+use Rattle.bz_mps.proofs.ModelColumns.{column_there, count_of, columns_step, columns_end}
+use Rattle.bz_mps.proofs.Refusals.{reads_refuses, refuses_as}
+use Rattle.bz_mps.specs.ModelReading.{AreColumnsOf}
 use Rattle.bz_mps.proofs.model_bounds.columns_of.Goals as goal
 
 pub loop-place-preserved : goal.loop-place-preserved
@@ -9,8 +12,27 @@ loop-place-preserved c =
     columns_step (IsColumnOf c.args.bounds.now) c.args.names.now c.args.integers.now c.loop-place.place false _ _ c.in_ok-column.column (search rules) c.loop-place-test.true c.loop-place.invariant
     (subst (λ (n : List ℕ). IsColumnOf c.args.bounds.now (c.loop-place.place, (n, get_or c.args.integers.now c.loop-place.place false)) c.in_ok-column.column) c.at.ensures c.in_ok-column.ensures) c.in_ok-push_column.ensures
 
-pub returns : goal.returns
-returns c =
+pub returns-clause-columns : goal.returns-clause-columns
+returns-clause-columns c =
     let e : c.loop-place.place ≡ length c.args.integers.now = omega arith in
-    columns_end (IsColumnOf c.args.bounds.now) c.args.names.now c.args.integers.now _ (search rules)
-    (subst (λ (n : ℕ). AllZip (IsColumnOf c.args.bounds.now) (take n (enumerate_from 0 (zip c.args.names.now c.args.integers.now))) c.loop-place.columns.items) e c.loop-place.invariant)
+    let same : length c.args.names.now ≡ length c.args.integers.now = search rules in
+    record {
+      same = same;
+      all = columns_end (IsColumnOf c.args.bounds.now) c.args.names.now c.args.integers.now _ same
+          (subst (λ (n : ℕ). AllZip (IsColumnOf c.args.bounds.now) (take n (enumerate_from 0 (zip c.args.names.now c.args.integers.now))) c.loop-place.columns.items) e c.loop-place.invariant);
+    }
+
+pub returns-clause-count : goal.returns-clause-count
+returns-clause-count c =
+    let e : c.loop-place.place ≡ length c.args.integers.now = omega arith in
+    let same : length c.args.names.now ≡ length c.args.integers.now = search rules in
+    count_of (IsColumnOf c.args.bounds.now) c.args.names.now c.args.integers.now _ same
+    (columns_end (IsColumnOf c.args.bounds.now) c.args.names.now c.args.integers.now _ same
+    (subst (λ (n : ℕ). AllZip (IsColumnOf c.args.bounds.now) (take n (enumerate_from 0 (zip c.args.names.now c.args.integers.now))) c.loop-place.columns.items) e c.loop-place.invariant))
+
+pub returns-in_err-column-clause-columns : goal.returns-in_err-column-clause-columns
+returns-in_err-column-clause-columns c =
+    refuses_as c.from_residual.result (λ v. v.items) (AreColumnsOf c.args.names.now c.args.integers.now c.args.bounds.now) _ c.from_residual.ensures.1
+    (reads_refuses (IsColumnOf c.args.bounds.now (c.loop-place.place, (c.at.result.now, get_or c.args.integers.now c.loop-place.place false))) _ c.in_err-column.ensures)
+    (λ cs a. subst (λ (n : List ℕ). (column : Column) × IsColumnOf c.args.bounds.now (c.loop-place.place, (n, get_or c.args.integers.now c.loop-place.place false)) column) (sym c.at.ensures)
+    (column_there (IsColumnOf c.args.bounds.now) c.args.names.now c.args.integers.now c.loop-place.place false cs a.same c.loop-place-test.true a.all))
