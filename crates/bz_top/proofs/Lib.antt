@@ -4,5 +4,4 @@ pub mod Puts
 pub mod Refused
 pub mod Settled
 pub mod Showing
-pub mod Stub
 pub mod Texts

@@ -24,7 +24,7 @@ use Rattle.bz_top.specs.declared.status.Status.TheVariants as status
 use Rattle.bz_cert.specs.CertText.{IsCertText}
 use Rattle.bz_mps.specs.ModelText.{IsModelText}
 use Rattle.bz_part.specs.PartText.{IsPartText}
-use Rattle.bz_top.specs.Claims.{HoldsFile, IsAccepted, IsBroken, IsCauseIn, IsCertRefused, IsOutside, IsTooLong, ReadsCertificate, ReadsModel, Settles, ShownBy, EndsSettled, EndsSettledAsked, IsCause, Shown, limit_of}
+use Rattle.bz_top.specs.Claims.{HoldsFile, IsAccepted, IsCutShort, IsProven, IsCauseIn, IsCertRefused, IsOutside, IsTooLong, ReadsCertificate, ReadsModel, Settles, ShownBy, EndsSettled, EndsSettledAsked, IsCause, Shown, limit_of}
 use Rattle.bz_top.specs.Ends.{name_of, status_after, status_of}
 use Rattle.bz_top.specs.Jobs.{IsJobless, JobOf}
 use Rattle.bz_top.proofs.Refused.{one_text}
@@ -32,15 +32,6 @@ use Rattle.bz_top.proofs.Refused.{one_text}
 -- the file holds a text within its limit
 abbrev IsHeld : Contents → Job → File → Type 0
 IsHeld contents job file = (text : List ℕ) × HoldsFile contents job file text
-
--- an accepted decomposition and a certificate that passes and fits
-record IsProven (contents : Contents) (job : Job) : Type 0 where
-  split : Decomposition
-  certificate : Certificate
-  accepted : IsAccepted contents job split
-  reads : ReadsCertificate contents job certificate
-  passes : Passes split.model split.part certificate
-  fits : Fits split.model split.part certificate
 
 -- the stage is passed
 abbrev Passed : Contents → Job → ℕ → Type 0
@@ -159,30 +150,35 @@ refused_stage contents job r = record {
   status_is = refl;
 }
 
-done_stage : (contents : Contents) (job : Job) (stated : Fraction) → ShownBy contents job stated → HasStage contents job status.Done
-done_stage contents job stated s =
-    let d : Decomposition = record { model = s.shows.model; part = s.shows.part } in
-    let accepted : IsAccepted contents job d = record {
-      model = record { text = s.model_text; held = s.model; reads = s.shows.model_is };
-      part_text = s.part_text;
-      part = s.part;
-      part_is = s.shows.part_is;
-      strict = s.shows.strict;
-    } in
-    let reads : ReadsCertificate contents job s.shows.certificate = record { text = s.cert_text; held = s.cert; reads = s.shows.certificate_is } in
-    record {
-      stage = 7;
-      ends = record {
-        before = with_one contents job 6 (before_check contents job (d, accepted) (s.shows.certificate, reads)) (record {
-          split = d; certificate = s.shows.certificate; accepted = accepted; reads = reads; passes = s.shows.passes; fits = s.shows.fits;
-        });
-        fails = λ bad. bad;
-      };
-      status_is = refl;
-    }
+proven_stage : (contents : Contents) (job : Job) → IsProven contents job → HasStage contents job status.Done
+proven_stage contents job p = record {
+  stage = 7;
+  ends = record {
+    before = with_one contents job 6 (before_check contents job (p.split, p.accepted) (p.certificate, p.reads)) p;
+    fails = λ bad. bad;
+  };
+  status_is = refl;
+}
+
+-- files that show an optimum have such a certificate
+proven : (contents : Contents) (job : Job) (stated : Fraction) → ShownBy contents job stated → IsProven contents job
+proven contents job stated s = record {
+  split = record { model = s.shows.model; part = s.shows.part };
+  accepted = record {
+    model = record { text = s.model_text; held = s.model; reads = s.shows.model_is };
+    part_text = s.part_text;
+    part = s.part;
+    part_is = s.shows.part_is;
+    strict = s.shows.strict;
+  };
+  certificate = s.shows.certificate;
+  reads = record { text = s.cert_text; held = s.cert; reads = s.shows.certificate_is };
+  passes = s.shows.passes;
+  fits = s.shows.fits;
+}
 
 settled_stage : (contents : Contents) (job : Job) (s : Status) → Settles contents job s → HasStage contents job s
-settled_stage contents job status.Done h = done_stage contents job h.0 h.1
+settled_stage contents job status.Done h = proven_stage contents job h
 settled_stage contents job status.Unresolved h = absurd h
 settled_stage contents job status.Usage h = absurd h
 settled_stage contents job status.Model h = outside_stage contents job ModelFile h
@@ -196,9 +192,9 @@ settled_stage contents job status.TooLong h = too_long_stage contents job h.0 h.
 -- the files show an optimum: so no other status is settled
 pub done_settled : (held : Option Contents) (job : Job) (stated : Fraction) → Shown held job stated → EndsSettled held job status.Done
 done_settled None job stated shown = tt
-done_settled (Some contents) job stated shown = λ s h. inl (one_status contents job status.Done s (done_stage contents job stated shown) (settled_stage contents job s h))
+done_settled (Some contents) job stated shown = λ s h. inl (one_status contents job status.Done s (proven_stage contents job (proven contents job stated shown)) (settled_stage contents job s h))
 
-broken_of : (held : Option Contents) (job : Job) (ends : Status) → IsBroken ends → EndsSettled held job ends
+broken_of : (held : Option Contents) (job : Job) (ends : Status) → IsCutShort ends → EndsSettled held job ends
 broken_of None job ends b = tt
 broken_of (Some contents) job ends b = λ s h. inr b
 

@@ -161,10 +161,19 @@ abbrev pub IsCause : Option Contents → Job → Refusal → Type 0
 IsCause None job refusal = Unit {0}
 IsCause (Some contents) job refusal = IsCauseIn contents job refusal
 
--- The contents settle the status: the files show an optimum, or the first of them that is too long or outside of its
+-- the three texts are read, and the certificate passes and fits
+pub record IsProven (contents : Contents) (job : Job) : Type 0 where
+  pub split : Decomposition
+  pub accepted : IsAccepted contents job split
+  pub certificate : Certificate
+  pub reads : ReadsCertificate contents job certificate
+  pub passes : Passes split.model split.part certificate
+  pub fits : Fits split.model split.part certificate
+
+-- The contents settle the status: the certificate passes and fits, or the first of the files that is too long or outside of its
 -- form, or else the check, gives a refusal. A status that depends on a fault or on memory is not settled by them.
 abbrev pub Settles : Contents → Job → Status → Type 0
-Settles contents job status.Done = (stated : Fraction) × ShownBy contents job stated
+Settles contents job status.Done = IsProven contents job
 Settles contents job status.Unresolved = ⊥
 Settles contents job status.Usage = ⊥
 Settles contents job status.Model = IsOutside contents job ModelFile
@@ -176,14 +185,14 @@ Settles contents job status.Cert = IsOutside contents job CertFile ⊎ IsCertRef
 Settles contents job status.TooLong = (file : File) × IsTooLong contents job file
 
 -- a status that no text settles: a read or a write failed, or there is no memory
-abbrev pub IsBroken : Status → Type 0
-IsBroken s = (s ≡ status.Read) ⊎ ((s ≡ status.Write) ⊎ (s ≡ status.Memory))
+abbrev pub IsCutShort : Status → Type 0
+IsCutShort s = (s ≡ status.Read) ⊎ ((s ≡ status.Write) ⊎ (s ≡ status.Memory))
 
 -- where the desk tells what it holds, a check ends with the status that the contents settle, unless a read or a write
 -- failed or there is no memory
 abbrev pub EndsSettled : Option Contents → Job → Status → Type 0
 EndsSettled None job ends = Unit {0}
-EndsSettled (Some contents) job ends = (settled : Status) → Settles contents job settled → (ends ≡ settled) ⊎ IsBroken ends
+EndsSettled (Some contents) job ends = (settled : Status) → Settles contents job settled → (ends ≡ settled) ⊎ IsCutShort ends
 
 -- a load that failed raised the desk's count of faults, and any other end leaves it as it was
 abbrev pub CountsFiles : {T : Type 0} → Result T Refusal → ℕ → ℕ → Type 0

@@ -6,11 +6,12 @@ use Rattle.bz_check.specs.Stated.{IsReduced, stated_fraction}
 use Rattle.bz_check.specs.declared.Stated.{Stated}
 use Rattle.bz_lines.specs.Reading.{Reads}
 use Rattle.bz_model.specs.Splits.{IsSplit}
+use Rattle.bz_pass.specs.declared.Certificate.{Certificate}
 use Rattle.bz_pass.specs.Certificates.{Passes, stated_objective}
 use Rattle.bz_pass.proofs.Optimality.{passing_optimal}
 use Rattle.bz_pass.proofs.SomePoint.{passing_point}
 use Rattle.bz_cert.proofs.Readings.{same_certificate}
-use Rattle.bz_top.proofs.Stub.{one_model}
+use Rattle.bz_mps.proofs.ModelTexts.{texts_have_one_model}
 use Rattle.bz_top.specs.declared.status.File.TheVariants.{Cert as CertFile}
 use Rattle.bz_top.specs.declared.status.Refusal.{Refusal}
 use Rattle.bz_cert.specs.CertText.{IsCertText}
@@ -30,7 +31,9 @@ returns-in_err-text-clause-cause g c =
 pub returns-in-Err-clause-cause : goal.returns-in-Err-clause-cause
 returns-in-Err-clause-cause g c =
     let held = held_at_first _ _ c.args.job.now CertFile _ c.in_ok-split.ensures.kept c.in_ok-text.ensures.whole in
-    cert_refused _ _ _ _ _ _ c.in_ok-split.ensures.accepted held c.in_ok-text.ensures.within ? c.refuse.ensures
+    let stops : Reads {X = Certificate} (IsCertText c.in_ok-text.text.items) (Err c.in-Err.stop) =
+    subst (λ (text : List ℕ). Reads {X = Certificate} (IsCertText text) (Err c.in-Err.stop)) c.as_slice.ensures.value c.in-Err.ensures in
+    cert_refused _ _ _ _ _ _ c.in_ok-split.ensures.accepted held c.in_ok-text.ensures.within stops c.refuse.ensures
 
 pub returns-clause-shown : goal.returns-clause-shown
 returns-clause-shown g c =
@@ -54,5 +57,5 @@ returns-clause-cause g c =
     let reads : IsCertText c.in_ok-text.text.items c.in-Ok.certificate =
     subst (λ (text : List ℕ). IsCertText text c.in-Ok.certificate) c.as_slice.ensures.value c.in-Ok.ensures in
     if_err_then {T = Stated} {E = Refusal} {P = RefusesCheck c.in_ok-split.split c.in-Ok.certificate} {Q = IsCause (g.D.Desk.held c.args.desk.now) c.args.job.now} c.agree.result
-    (λ r refuses. check_refused one_model one_part same_certificate _ _ _ _ _ r c.in_ok-split.ensures.accepted held c.in_ok-text.ensures.within reads refuses)
+    (λ r refuses. check_refused texts_have_one_model one_part same_certificate _ _ _ _ _ r c.in_ok-split.ensures.accepted held c.in_ok-text.ensures.within reads refuses)
     c.agree.ensures.refused
