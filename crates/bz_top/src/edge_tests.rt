@@ -1,6 +1,7 @@
 //! Texts at the edges of their first forms, with what the program prints of them.
 use crate::Status;
 use crate::tests::{CERT, Case, FIRST, MODEL, PART, ends};
+use std::alloc::{AllocError, Global};
 use std::test::Fail;
 
 const HOLDS: &str = "certificate holds: optimal 1\n";
@@ -9,312 +10,428 @@ const NO_PART: &str = "partition: outside the first form\n";
 const NO_CERT: &str = "certificate: outside the first form\n";
 const REFUSED: &str = "certificate: refused\n";
 
-/// The texts of a model that say what the smallest one does, and those that are outside of the form.
-const MODELS: [(&str, Status, &str); 16] = [
+/// A text of the smallest check with other lines in the place of some, and how the check ends.
+#[derive(Clone, Copy)]
+struct Edge {
+    old: &'static str,
+    new: &'static str,
+    status: Status,
+    text: &'static str,
+}
+
+/// Models.
+const MODEL_EDGES: [Edge; 24] = [
     // the last line feed is missing
-    (
-        "NAME ONE\nROWS\n N COST\n G LINK\nCOLUMNS\n M1 'MARKER' 'INTORG'\n x COST 1 LINK 1\n M2 'MARKER' 'INTEND'\n y COST 2 LINK 1\nRHS\n RHS LINK 1\nBOUNDS\n UP BND x 1\nENDATA",
-        Status::Done,
-        HOLDS,
-    ),
+    Edge {
+        old: "ENDATA\n",
+        new: "ENDATA",
+        status: Status::Done,
+        text: HOLDS,
+    },
     // NAME is missing
-    (
-        "ROWS\n N COST\n G LINK\nCOLUMNS\n M1 'MARKER' 'INTORG'\n x COST 1 LINK 1\n M2 'MARKER' 'INTEND'\n y COST 2 LINK 1\nRHS\n RHS LINK 1\nBOUNDS\n UP BND x 1\nENDATA\n",
-        Status::Done,
-        HOLDS,
-    ),
+    Edge {
+        old: "NAME ONE\n",
+        new: "",
+        status: Status::Done,
+        text: HOLDS,
+    },
     // lines behind ENDATA are free
-    (
-        "NAME ONE\nROWS\n N COST\n G LINK\nCOLUMNS\n M1 'MARKER' 'INTORG'\n x COST 1 LINK 1\n M2 'MARKER' 'INTEND'\n y COST 2 LINK 1\nRHS\n RHS LINK 1\nBOUNDS\n UP BND x 1\nENDATA\n* \u{1} +1\nROWS\n",
-        Status::Done,
-        HOLDS,
-    ),
+    Edge {
+        old: "ENDATA\n",
+        new: "ENDATA\n* \u{1} +1\nROWS\n",
+        status: Status::Done,
+        text: HOLDS,
+    },
     // blank lines, tabs and carriage returns before line feeds
-    (
-        "NAME ONE\nROWS\n\tN\tCOST\r\n\n  \t\r\n G LINK\nCOLUMNS\n M1 'MARKER' 'INTORG'\n x COST 1 LINK 1\n M2 'MARKER' 'INTEND'\n y COST 2 LINK 1\nRHS\n RHS LINK 1\nBOUNDS\n UP BND x 1\nENDATA\n",
-        Status::Done,
-        HOLDS,
-    ),
-    // lines of another set are tested for their fields alone
-    (
-        "NAME ONE\nROWS\n N COST\n G LINK\nCOLUMNS\n M1 'MARKER' 'INTORG'\n x COST 1 LINK 1\n M2 'MARKER' 'INTEND'\n y COST 2 LINK 1\nRHS\n RHS LINK 1\n OTHER none +1\nBOUNDS\n UP BND x 1\n UP OTHER none +1\nENDATA\n",
-        Status::Done,
-        HOLDS,
-    ),
+    Edge {
+        old: " N COST\n",
+        new: "\tN\tCOST\r\n\n  \t\r\n",
+        status: Status::Done,
+        text: HOLDS,
+    },
+    // a right side of another set is tested for its fields alone
+    Edge {
+        old: " RHS LINK 1\n",
+        new: " RHS LINK 1\n OTHER none +1\n",
+        status: Status::Done,
+        text: HOLDS,
+    },
+    // a bound of another set is tested for its kind and fields alone
+    Edge {
+        old: " UP BND x 1\n",
+        new: " UP BND x 1\n UP OTHER none +1\n",
+        status: Status::Done,
+        text: HOLDS,
+    },
     // a carriage return at the end of the text
-    (
-        "NAME ONE\nROWS\n N COST\n G LINK\nCOLUMNS\n M1 'MARKER' 'INTORG'\n x COST 1 LINK 1\n M2 'MARKER' 'INTEND'\n y COST 2 LINK 1\nRHS\n RHS LINK 1\nBOUNDS\n UP BND x 1\nENDATA\r",
-        Status::Model,
-        NO_MODEL,
-    ),
+    Edge {
+        old: "ENDATA\n",
+        new: "ENDATA\r",
+        status: Status::Model,
+        text: NO_MODEL,
+    },
     // a comment
-    (
-        "* first\nNAME ONE\nROWS\n N COST\n G LINK\nCOLUMNS\n M1 'MARKER' 'INTORG'\n x COST 1 LINK 1\n M2 'MARKER' 'INTEND'\n y COST 2 LINK 1\nRHS\n RHS LINK 1\nBOUNDS\n UP BND x 1\nENDATA\n",
-        Status::Model,
-        NO_MODEL,
-    ),
+    Edge {
+        old: "NAME ONE\n",
+        new: "* first\nNAME ONE\n",
+        status: Status::Model,
+        text: NO_MODEL,
+    },
     // RHS comes twice
-    (
-        "NAME ONE\nROWS\n N COST\n G LINK\nCOLUMNS\n M1 'MARKER' 'INTORG'\n x COST 1 LINK 1\n M2 'MARKER' 'INTEND'\n y COST 2 LINK 1\nRHS\n RHS LINK 1\nRHS\nBOUNDS\n UP BND x 1\nENDATA\n",
-        Status::Model,
-        NO_MODEL,
-    ),
+    Edge {
+        old: "BOUNDS\n",
+        new: "RHS\nBOUNDS\n",
+        status: Status::Model,
+        text: NO_MODEL,
+    },
+    // a header with a word more
+    Edge {
+        old: "BOUNDS\n",
+        new: "BOUNDS BND\n",
+        status: Status::Model,
+        text: NO_MODEL,
+    },
     // a number of 19 digits
-    (
-        "NAME ONE\nROWS\n N COST\n G LINK\nCOLUMNS\n M1 'MARKER' 'INTORG'\n x COST 1 LINK 1\n M2 'MARKER' 'INTEND'\n y COST 2 LINK 1\nRHS\n RHS LINK 1000000000000000000\nBOUNDS\n UP BND x 1\nENDATA\n",
-        Status::Model,
-        NO_MODEL,
-    ),
+    Edge {
+        old: " RHS LINK 1\n",
+        new: " RHS LINK 1000000000000000000\n",
+        status: Status::Model,
+        text: NO_MODEL,
+    },
     // a sign in front of a number
-    (
-        "NAME ONE\nROWS\n N COST\n G LINK\nCOLUMNS\n M1 'MARKER' 'INTORG'\n x COST 1 LINK 1\n M2 'MARKER' 'INTEND'\n y COST 2 LINK 1\nRHS\n RHS LINK +1\nBOUNDS\n UP BND x 1\nENDATA\n",
-        Status::Model,
-        NO_MODEL,
-    ),
+    Edge {
+        old: " RHS LINK 1\n",
+        new: " RHS LINK +1\n",
+        status: Status::Model,
+        text: NO_MODEL,
+    },
     // a zero in front of a number
-    (
-        "NAME ONE\nROWS\n N COST\n G LINK\nCOLUMNS\n M1 'MARKER' 'INTORG'\n x COST 1 LINK 1\n M2 'MARKER' 'INTEND'\n y COST 2 LINK 1\nRHS\n RHS LINK 01\nBOUNDS\n UP BND x 1\nENDATA\n",
-        Status::Model,
-        NO_MODEL,
-    ),
+    Edge {
+        old: " RHS LINK 1\n",
+        new: " RHS LINK 01\n",
+        status: Status::Model,
+        text: NO_MODEL,
+    },
+    // a zero with a sign
+    Edge {
+        old: " RHS LINK 1\n",
+        new: " RHS LINK -0\n",
+        status: Status::Model,
+        text: NO_MODEL,
+    },
     // a row that isn't there
-    (
-        "NAME ONE\nROWS\n N COST\n G LINK\nCOLUMNS\n M1 'MARKER' 'INTORG'\n x COST 1 LINK 1\n M2 'MARKER' 'INTEND'\n y COST 2 LINK 1\nRHS\n RHS NONE 1\nBOUNDS\n UP BND x 1\nENDATA\n",
-        Status::Model,
-        NO_MODEL,
-    ),
+    Edge {
+        old: " RHS LINK 1\n",
+        new: " RHS NONE 1\n",
+        status: Status::Model,
+        text: NO_MODEL,
+    },
+    // a set name that is left out
+    Edge {
+        old: " RHS LINK 1\n",
+        new: " LINK 1\n",
+        status: Status::Model,
+        text: NO_MODEL,
+    },
     // an entry that comes twice
-    (
-        "NAME ONE\nROWS\n N COST\n G LINK\nCOLUMNS\n M1 'MARKER' 'INTORG'\n x COST 1 LINK 1\n x LINK 1\n M2 'MARKER' 'INTEND'\n y COST 2 LINK 1\nRHS\n RHS LINK 1\nBOUNDS\n UP BND x 1\nENDATA\n",
-        Status::Model,
-        NO_MODEL,
-    ),
+    Edge {
+        old: " x COST 1 LINK 1\n",
+        new: " x COST 1 LINK 1\n x LINK 1\n",
+        status: Status::Model,
+        text: NO_MODEL,
+    },
     // a marker that stays open
-    (
-        "NAME ONE\nROWS\n N COST\n G LINK\nCOLUMNS\n M1 'MARKER' 'INTORG'\n x COST 1 LINK 1\n y COST 2 LINK 1\nRHS\n RHS LINK 1\nBOUNDS\n UP BND x 1\nENDATA\n",
-        Status::Model,
-        NO_MODEL,
-    ),
+    Edge {
+        old: " M2 'MARKER' 'INTEND'\n",
+        new: "",
+        status: Status::Model,
+        text: NO_MODEL,
+    },
+    // a column that comes again behind a marker
+    Edge {
+        old: " M2 'MARKER' 'INTEND'\n",
+        new: " M2 'MARKER' 'INTEND'\n x LINK 2\n",
+        status: Status::Model,
+        text: NO_MODEL,
+    },
     // a negative upper bound
-    (
-        "NAME ONE\nROWS\n N COST\n G LINK\nCOLUMNS\n M1 'MARKER' 'INTORG'\n x COST 1 LINK 1\n M2 'MARKER' 'INTEND'\n y COST 2 LINK 1\nRHS\n RHS LINK 1\nBOUNDS\n UP BND x -1\nENDATA\n",
-        Status::Model,
-        NO_MODEL,
-    ),
+    Edge {
+        old: " UP BND x 1\n",
+        new: " UP BND x -1\n",
+        status: Status::Model,
+        text: NO_MODEL,
+    },
+    // a bound of another kind
+    Edge {
+        old: " UP BND x 1\n",
+        new: " UP BND x 1\n LO BND x 0\n",
+        status: Status::Model,
+        text: NO_MODEL,
+    },
+    // a bound of another set and another kind
+    Edge {
+        old: " UP BND x 1\n",
+        new: " UP BND x 1\n LO OTHER x 0\n",
+        status: Status::Model,
+        text: NO_MODEL,
+    },
     // ENDATA is missing
-    (
-        "NAME ONE\nROWS\n N COST\n G LINK\nCOLUMNS\n M1 'MARKER' 'INTORG'\n x COST 1 LINK 1\n M2 'MARKER' 'INTEND'\n y COST 2 LINK 1\nRHS\n RHS LINK 1\nBOUNDS\n UP BND x 1\n",
-        Status::Model,
-        NO_MODEL,
-    ),
+    Edge {
+        old: "ENDATA\n",
+        new: "",
+        status: Status::Model,
+        text: NO_MODEL,
+    },
+    // a number of 18 digits, which no point meets
+    Edge {
+        old: " RHS LINK 1\n",
+        new: " RHS LINK 999999999999999999\n",
+        status: Status::Cert,
+        text: REFUSED,
+    },
 ];
 
-const PARTS: [(&str, Status, &str); 12] = [
+/// Partitions.
+const PART_EDGES: [Edge; 12] = [
     // the last line feed is missing
-    (
-        "cpxBendersPartition 1\nx 0",
-        Status::Done,
-        HOLDS,
-    ),
+    Edge {
+        old: "x 0\n",
+        new: "x 0",
+        status: Status::Done,
+        text: HOLDS,
+    },
     // blanks, tabs, a blank line and carriage returns
-    (
-        "\n\t cpxBendersPartition\t1\r\n\n x  0\r\n",
-        Status::Done,
-        HOLDS,
-    ),
+    Edge {
+        old: "cpxBendersPartition 1\nx 0\n",
+        new: "\n\t cpxBendersPartition\t1\r\n\n x  0\r\n",
+        status: Status::Done,
+        text: HOLDS,
+    },
     // no text
-    (
-        "",
-        Status::Part,
-        NO_PART,
-    ),
+    Edge {
+        old: "cpxBendersPartition 1\nx 0\n",
+        new: "",
+        status: Status::Part,
+        text: NO_PART,
+    },
     // a comment
-    (
-        "* first\ncpxBendersPartition 1\nx 0\n",
-        Status::Part,
-        NO_PART,
-    ),
+    Edge {
+        old: "x 0\n",
+        new: "* first\nx 0\n",
+        status: Status::Part,
+        text: NO_PART,
+    },
     // two blocks
-    (
-        "cpxBendersPartition 2\nx 0\n",
-        Status::Part,
-        NO_PART,
-    ),
+    Edge {
+        old: "Partition 1\n",
+        new: "Partition 2\n",
+        status: Status::Part,
+        text: NO_PART,
+    },
     // a field more in the first line
-    (
-        "cpxBendersPartition 1 1\nx 0\n",
-        Status::Part,
-        NO_PART,
-    ),
+    Edge {
+        old: "Partition 1\n",
+        new: "Partition 1 1\n",
+        status: Status::Part,
+        text: NO_PART,
+    },
     // a name that comes twice
-    (
-        "cpxBendersPartition 1\nx 0\nx 0\n",
-        Status::Part,
-        NO_PART,
-    ),
+    Edge {
+        old: "x 0\n",
+        new: "x 0\nx 0\n",
+        status: Status::Part,
+        text: NO_PART,
+    },
     // a column that isn't there
-    (
-        "cpxBendersPartition 1\nx 0\nz 0\n",
-        Status::Part,
-        NO_PART,
-    ),
+    Edge {
+        old: "x 0\n",
+        new: "x 0\nz 0\n",
+        status: Status::Part,
+        text: NO_PART,
+    },
     // a column that is put into block 1
-    (
-        "cpxBendersPartition 1\nx 1\n",
-        Status::Part,
-        NO_PART,
-    ),
+    Edge {
+        old: "x 0\n",
+        new: "x 0\ny 1\n",
+        status: Status::Part,
+        text: NO_PART,
+    },
     // a field more in a line
-    (
-        "cpxBendersPartition 1\nx 0 0\n",
-        Status::Part,
-        NO_PART,
-    ),
+    Edge {
+        old: "x 0\n",
+        new: "x 0 0\n",
+        status: Status::Part,
+        text: NO_PART,
+    },
     // an integer column in the block
-    (
-        "cpxBendersPartition 1\n",
-        Status::Part,
-        NO_PART,
-    ),
+    Edge {
+        old: "x 0\n",
+        new: "",
+        status: Status::Part,
+        text: NO_PART,
+    },
     // no column in the block
-    (
-        "cpxBendersPartition 1\nx 0\ny 0\n",
-        Status::Part,
-        NO_PART,
-    ),
+    Edge {
+        old: "x 0\n",
+        new: "x 0\ny 0\n",
+        status: Status::Part,
+        text: NO_PART,
+    },
 ];
 
-const CERTS: [(&str, Status, &str); 21] = [
+/// Certificates.
+const CERT_EDGES: [Edge; 21] = [
     // the last line feed is missing
-    (
-        "bzcert 1\nverdict optimal\nmaster 1 1\neta 0\nblock 1 1 0\nvalue 1\ncuts 1\ncut 1 1 -2 1 1 0 -2 1 0 2\nleaf 1 1 2 0 1 2 1\nend",
-        Status::Cert,
-        NO_CERT,
-    ),
+    Edge {
+        old: "end\n",
+        new: "end",
+        status: Status::Cert,
+        text: NO_CERT,
+    },
     // a line behind the end
-    (
-        "bzcert 1\nverdict optimal\nmaster 1 1\neta 0\nblock 1 1 0\nvalue 1\ncuts 1\ncut 1 1 -2 1 1 0 -2 1 0 2\nleaf 1 1 2 0 1 2 1\nend\n\n",
-        Status::Cert,
-        NO_CERT,
-    ),
+    Edge {
+        old: "end\n",
+        new: "end\n\n",
+        status: Status::Cert,
+        text: NO_CERT,
+    },
     // a sign in front of a number
-    (
-        "bzcert 1\nverdict optimal\nmaster 1 1\neta 0\nblock 1 1 0\nvalue +1\ncuts 1\ncut 1 1 -2 1 1 0 -2 1 0 2\nleaf 1 1 2 0 1 2 1\nend\n",
-        Status::Cert,
-        NO_CERT,
-    ),
+    Edge {
+        old: "value 1\n",
+        new: "value +1\n",
+        status: Status::Cert,
+        text: NO_CERT,
+    },
     // a zero in front of a number
-    (
-        "bzcert 1\nverdict optimal\nmaster 1 1\neta 0\nblock 1 1 0\nvalue 01\ncuts 1\ncut 1 1 -2 1 1 0 -2 1 0 2\nleaf 1 1 2 0 1 2 1\nend\n",
-        Status::Cert,
-        NO_CERT,
-    ),
+    Edge {
+        old: "value 1\n",
+        new: "value 01\n",
+        status: Status::Cert,
+        text: NO_CERT,
+    },
+    // a zero with a sign
+    Edge {
+        old: "eta 0\n",
+        new: "eta -0\n",
+        status: Status::Cert,
+        text: NO_CERT,
+    },
     // a number of 19 digits
-    (
-        "bzcert 1\nverdict optimal\nmaster 1 1\neta 0\nblock 1 1 0\nvalue 1000000000000000000\ncuts 1\ncut 1 1 -2 1 1 0 -2 1 0 2\nleaf 1 1 2 0 1 2 1\nend\n",
-        Status::Cert,
-        NO_CERT,
-    ),
+    Edge {
+        old: "value 1\n",
+        new: "value 1000000000000000000\n",
+        status: Status::Cert,
+        text: NO_CERT,
+    },
     // a tab between fields
-    (
-        "bzcert 1\nverdict optimal\nmaster 1 1\neta 0\nblock 1 1 0\nvalue\t1\ncuts 1\ncut 1 1 -2 1 1 0 -2 1 0 2\nleaf 1 1 2 0 1 2 1\nend\n",
-        Status::Cert,
-        NO_CERT,
-    ),
+    Edge {
+        old: "value 1\n",
+        new: "value\t1\n",
+        status: Status::Cert,
+        text: NO_CERT,
+    },
     // a carriage return before a line feed
-    (
-        "bzcert 1\nverdict optimal\nmaster 1 1\neta 0\nblock 1 1 0\nvalue 1\r\ncuts 1\ncut 1 1 -2 1 1 0 -2 1 0 2\nleaf 1 1 2 0 1 2 1\nend\n",
-        Status::Cert,
-        NO_CERT,
-    ),
+    Edge {
+        old: "value 1\n",
+        new: "value 1\r\n",
+        status: Status::Cert,
+        text: NO_CERT,
+    },
     // eta comes twice
-    (
-        "bzcert 1\nverdict optimal\nmaster 1 1\neta 0\neta 0\nblock 1 1 0\nvalue 1\ncuts 1\ncut 1 1 -2 1 1 0 -2 1 0 2\nleaf 1 1 2 0 1 2 1\nend\n",
-        Status::Cert,
-        NO_CERT,
-    ),
+    Edge {
+        old: "eta 0\n",
+        new: "eta 0\neta 0\n",
+        status: Status::Cert,
+        text: NO_CERT,
+    },
     // another verdict
-    (
-        "bzcert 1\nverdict infeasible\nmaster 1 1\neta 0\nblock 1 1 0\nvalue 1\ncuts 1\ncut 1 1 -2 1 1 0 -2 1 0 2\nleaf 1 1 2 0 1 2 1\nend\n",
-        Status::Cert,
-        NO_CERT,
-    ),
+    Edge {
+        old: "verdict optimal\n",
+        new: "verdict infeasible\n",
+        status: Status::Cert,
+        text: NO_CERT,
+    },
     // a list whose indexes do not rise
-    (
-        "bzcert 1\nverdict optimal\nmaster 1 1\neta 0\nblock 1 1 0\nvalue 1\ncuts 1\ncut 1 1 -2 1 1 0 -2 1 0 2\nleaf 1 1 2 2 1 0 1\nend\n",
-        Status::Cert,
-        NO_CERT,
-    ),
+    Edge {
+        old: "leaf 1 1 2 0 1 2 1\n",
+        new: "leaf 1 1 2 2 1 0 1\n",
+        status: Status::Cert,
+        text: NO_CERT,
+    },
     // a list with a zero
-    (
-        "bzcert 1\nverdict optimal\nmaster 1 1\neta 0\nblock 1 1 0\nvalue 1\ncuts 1\ncut 1 1 -2 1 1 0 -2 1 0 2\nleaf 1 1 3 0 1 1 0 2 1\nend\n",
-        Status::Cert,
-        NO_CERT,
-    ),
+    Edge {
+        old: "leaf 1 1 2 0 1 2 1\n",
+        new: "leaf 1 1 3 0 1 1 0 2 1\n",
+        status: Status::Cert,
+        text: NO_CERT,
+    },
     // a block that is numbered 2
-    (
-        "bzcert 1\nverdict optimal\nmaster 1 1\neta 0\nblock 2 1 0\nvalue 1\ncuts 1\ncut 1 1 -2 1 1 0 -2 1 0 2\nleaf 1 1 2 0 1 2 1\nend\n",
-        Status::Cert,
-        NO_CERT,
-    ),
+    Edge {
+        old: "block 1 1 0\n",
+        new: "block 2 1 0\n",
+        status: Status::Cert,
+        text: NO_CERT,
+    },
     // one cut fewer than told
-    (
-        "bzcert 1\nverdict optimal\nmaster 1 1\neta 0\nblock 1 1 0\nvalue 1\ncuts 2\ncut 1 1 -2 1 1 0 -2 1 0 2\nleaf 1 1 2 0 1 2 1\nend\n",
-        Status::Cert,
-        NO_CERT,
-    ),
-    // a cut of block 2
-    (
-        "bzcert 1\nverdict optimal\nmaster 1 1\neta 0\nblock 1 1 0\nvalue 1\ncuts 1\ncut 2 1 -2 1 1 0 -2 1 0 2\nleaf 1 1 2 0 1 2 1\nend\n",
-        Status::Cert,
-        REFUSED,
-    ),
-    // a cut whose right side is too small by 1
-    (
-        "bzcert 1\nverdict optimal\nmaster 1 1\neta 0\nblock 1 1 0\nvalue 1\ncuts 1\ncut 1 1 -3 1 1 0 -2 1 0 2\nleaf 1 1 2 0 1 2 1\nend\n",
-        Status::Cert,
-        REFUSED,
-    ),
+    Edge {
+        old: "cuts 1\n",
+        new: "cuts 2\n",
+        status: Status::Cert,
+        text: NO_CERT,
+    },
+    // a cut of block 2, which no leaf uses
+    Edge {
+        old: "cuts 1\ncut 1 1 -2 1 1 0 -2 1 0 2\n",
+        new: "cuts 2\ncut 1 1 -2 1 1 0 -2 1 0 2\ncut 2 0 0 1 0 0\n",
+        status: Status::Cert,
+        text: REFUSED,
+    },
+    // a cut whose right side is too small, with the leaf that would follow
+    Edge {
+        old: "cut 1 1 -2 1 1 0 -2 1 0 2\nleaf 1 1 2 0 1 2 1\n",
+        new: "cut 1 1 -3 1 1 0 -2 1 0 2\nleaf 1 2 2 0 1 2 1\n",
+        status: Status::Cert,
+        text: REFUSED,
+    },
     // a leaf with a multiplier of a side that isn't there
-    (
-        "bzcert 1\nverdict optimal\nmaster 1 1\neta 0\nblock 1 1 0\nvalue 1\ncuts 1\ncut 1 1 -2 1 1 0 -2 1 0 2\nleaf 1 1 2 0 1 3 1\nend\n",
-        Status::Cert,
-        REFUSED,
-    ),
+    Edge {
+        old: "leaf 1 1 2 0 1 2 1\n",
+        new: "leaf 1 1 3 0 1 2 1 3 1\n",
+        status: Status::Cert,
+        text: REFUSED,
+    },
     // a leaf with a bound that its sides don't give
-    (
-        "bzcert 1\nverdict optimal\nmaster 1 1\neta 0\nblock 1 1 0\nvalue 1\ncuts 1\ncut 1 1 -2 1 1 0 -2 1 0 2\nleaf 1 1 2 0 1 2 2\nend\n",
-        Status::Cert,
-        REFUSED,
-    ),
+    Edge {
+        old: "leaf 1 1 2 0 1 2 1\n",
+        new: "leaf 1 1 2 0 1 2 2\n",
+        status: Status::Cert,
+        text: REFUSED,
+    },
     // a value that isn't the point's
-    (
-        "bzcert 1\nverdict optimal\nmaster 1 1\neta 0\nblock 1 1 0\nvalue 0\ncuts 1\ncut 1 1 -2 1 1 0 -2 1 0 2\nleaf 1 1 2 0 1 2 1\nend\n",
-        Status::Cert,
-        REFUSED,
-    ),
+    Edge {
+        old: "value 1\n",
+        new: "value 0\n",
+        status: Status::Cert,
+        text: REFUSED,
+    },
     // a point that misses the row
-    (
-        "bzcert 1\nverdict optimal\nmaster 1 0\neta 0\nblock 1 1 0\nvalue 0\ncuts 1\ncut 1 1 -2 1 1 0 -2 1 0 2\nleaf 1 1 2 0 1 2 1\nend\n",
-        Status::Cert,
-        REFUSED,
-    ),
-    // a column that isn't whole
-    (
-        "bzcert 1\nverdict optimal\nmaster 2 1\neta 0\nblock 1 1 1\nvalue 1\ncuts 1\ncut 1 1 -2 1 1 0 -2 1 0 2\nleaf 1 1 2 0 1 2 1\nend\n",
-        Status::Cert,
-        REFUSED,
-    ),
+    Edge {
+        old: "master 1 1\neta 0\nblock 1 1 0\nvalue 1\n",
+        new: "master 1 0\neta 0\nblock 1 1 0\nvalue 0\n",
+        status: Status::Cert,
+        text: REFUSED,
+    },
     // a point with a number more
-    (
-        "bzcert 1\nverdict optimal\nmaster 1 1 1\neta 0\nblock 1 1 0\nvalue 1\ncuts 1\ncut 1 1 -2 1 1 0 -2 1 0 2\nleaf 1 1 2 0 1 2 1\nend\n",
-        Status::Cert,
-        REFUSED,
-    ),
+    Edge {
+        old: "master 1 1\n",
+        new: "master 1 1 1\n",
+        status: Status::Cert,
+        text: REFUSED,
+    },
 ];
 
-/// A model whose point has, in the row, a sum of -(2^127 - 1) at z = 353336727: x is 1000/1000, the row takes it
-/// 170141183460469231 times, and the block's numbers stand over 1000 * 999999999999999999. Beside it y is 901828487176, taken 1000000000 times.
+/// In the row LINK the sum of the point below is -(2^127 - 1): the row takes x = 1000/1000 170141183460469231 times, y 1000000000 times
+/// and z once, and the numbers of y and z stand over 1000 * 999999999999999999.
 const WIDE_MODEL: &str =
     "ROWS\n N COST\n G LINK\nCOLUMNS\n M1 'MARKER' 'INTORG'\n x COST -1 LINK 170141183460469231\n M2 'MARKER' 'INTEND'\n y LINK 1000000000\n z LINK 1\nRHS\n RHS LINK 1\nENDATA\n";
 
@@ -324,35 +441,54 @@ const WIDEST: &str =
 const TOO_WIDE: &str =
     "bzcert 1\nverdict optimal\nmaster 1000 1000\neta 0\nblock 1 999999999999999999 901828487176 353336728\nvalue -1000\ncuts 1\ncut 1 1 0 1 0 0\nleaf 1 -1 2 0 1 2 1\nend\n";
 
+/// A model in which y costs 1, and a certificate of its half point: of all tests only that x is whole refuses it.
+const HALF_MODEL: &str =
+    "ROWS\n N COST\n G LINK\nCOLUMNS\n M1 'MARKER' 'INTORG'\n x COST 1 LINK 1\n M2 'MARKER' 'INTEND'\n y COST 1 LINK 1\nRHS\n RHS LINK 1\nENDATA\n";
+
+const HALF: &str =
+    "bzcert 1\nverdict optimal\nmaster 2 1\neta 1\nblock 1 1 1\nvalue 2\ncuts 1\ncut 1 1 -1 1 1 0 -1 1 0 1\nleaf 1 1 1 2 1\nend\n";
+
+/// The text with the new lines in the place of the old ones.
+fn changed(alloc: Global, text: &str, edge: &Edge) -> Result<String, AllocError> {
+    text.replace(alloc, edge.old, edge.new)
+}
+
 #[test]
 fn ends_at_the_edges_as_the_forms_say(rt: HostRuntime) -> Result<(), Fail> {
-    for (model, status, text) in MODELS {
+    for edge in MODEL_EDGES {
+        let text = changed(rt.alloc(), MODEL, &edge)?;
+        let model = text.as_str();
         let (ended, printed) = ends(rt.alloc(), &["check", "m", "p", "c"], &Case { model, ..FIRST })?;
-        assert_eq!(rt; ended, status);
-        assert_eq!(rt; printed.as_slice(), text.as_bytes());
+        assert_eq!(rt; ended, edge.status);
+        assert_eq!(rt; printed.as_slice(), edge.text.as_bytes());
     }
-    for (part, status, text) in PARTS {
+    for edge in PART_EDGES {
+        let text = changed(rt.alloc(), PART, &edge)?;
+        let part = text.as_str();
         let (ended, printed) = ends(rt.alloc(), &["check", "m", "p", "c"], &Case { part, ..FIRST })?;
-        assert_eq!(rt; ended, status);
-        assert_eq!(rt; printed.as_slice(), text.as_bytes());
+        assert_eq!(rt; ended, edge.status);
+        assert_eq!(rt; printed.as_slice(), edge.text.as_bytes());
     }
-    for (cert, status, text) in CERTS {
+    for edge in CERT_EDGES {
+        let text = changed(rt.alloc(), CERT, &edge)?;
+        let cert = text.as_str();
         let (ended, printed) = ends(rt.alloc(), &["check", "m", "p", "c"], &Case { cert, ..FIRST })?;
-        assert_eq!(rt; ended, status);
-        assert_eq!(rt; printed.as_slice(), text.as_bytes());
+        assert_eq!(rt; ended, edge.status);
+        assert_eq!(rt; printed.as_slice(), edge.text.as_bytes());
     }
     Ok(())
 }
 
 #[test]
 fn takes_a_sum_at_the_limit_and_none_above(rt: HostRuntime) -> Result<(), Fail> {
-    let all: [(&str, Status, &[u8]); 2] = [
-        (WIDEST, Status::Done, b"certificate holds: optimal -1\n"),
-        (TOO_WIDE, Status::Cert, b"certificate: refused\n"),
+    let all: [(&str, &str, Status, &[u8]); 3] = [
+        (WIDE_MODEL, WIDEST, Status::Done, b"certificate holds: optimal -1\n"),
+        (WIDE_MODEL, TOO_WIDE, Status::Cert, b"certificate: refused\n"),
+        (HALF_MODEL, HALF, Status::Cert, b"certificate: refused\n"),
     ];
-    for (cert, status, text) in all {
+    for (model, cert, status, text) in all {
         let case = Case {
-            model: WIDE_MODEL,
+            model,
             cert,
             ..FIRST
         };
@@ -364,21 +500,25 @@ fn takes_a_sum_at_the_limit_and_none_above(rt: HostRuntime) -> Result<(), Fail> 
 }
 
 #[test]
-fn refuses_a_file_that_is_too_long(rt: HostRuntime) -> Result<(), Fail> {
-    let longest = 16 * 1024 * 1024;
-    let long = "x".repeat(rt.alloc(), longest + 1)?;
-    let all: [(&str, &str, &[u8]); 2] = [
-        (long.as_str(), PART, b"too long: m\n"),
-        (MODEL, long.as_str(), b"too long: p\n"),
+fn takes_a_file_at_its_limit_and_none_above(rt: HostRuntime) -> Result<(), Fail> {
+    let limit: usize = 16 * 1024 * 1024;
+    let alloc = rt.alloc();
+    let mut full = String::from_str(alloc, MODEL)?;
+    full.push_str("x".repeat(alloc, limit - MODEL.len())?.as_str())?;
+    let long = "x".repeat(alloc, limit + 1)?;
+    let all: [(&str, &str, Status, &[u8]); 3] = [
+        (full.as_str(), PART, Status::Done, b"certificate holds: optimal 1\n"),
+        (long.as_str(), PART, Status::TooLong, b"too long: m\n"),
+        (MODEL, long.as_str(), Status::TooLong, b"too long: p\n"),
     ];
-    for (model, part, text) in all {
+    for (model, part, status, text) in all {
         let case = Case {
             model,
             part,
             ..FIRST
         };
-        let (ended, printed) = ends(rt.alloc(), &["check", "m", "p", "c"], &case)?;
-        assert_eq!(rt; ended, Status::TooLong);
+        let (ended, printed) = ends(alloc, &["check", "m", "p", "c"], &case)?;
+        assert_eq!(rt; ended, status);
         assert_eq!(rt; printed.as_slice(), text);
     }
     Ok(())
@@ -387,12 +527,27 @@ fn refuses_a_file_that_is_too_long(rt: HostRuntime) -> Result<(), Fail> {
 #[test]
 fn refuses_a_certificate_that_is_too_long(rt: HostRuntime) -> Result<(), Fail> {
     let long = "x".repeat(rt.alloc(), 64 * 1024 * 1024 + 1)?;
-    let case = Case {
-        cert: long.as_str(),
+    let all: [(&str, Status, &[u8]); 2] = [
+        (PART, Status::TooLong, b"too long: c\n"),
+        ("", Status::Part, b"partition: outside the first form\n"),
+    ];
+    for (part, status, text) in all {
+        let case = Case {
+            part,
+            cert: long.as_str(),
+            ..FIRST
+        };
+        let (ended, printed) = ends(rt.alloc(), &["check", "m", "p", "c"], &case)?;
+        assert_eq!(rt; ended, status);
+        assert_eq!(rt; printed.as_slice(), text);
+    }
+    let none = Case {
+        model: "",
+        part: "",
         ..FIRST
     };
-    let (ended, printed) = ends(rt.alloc(), &["check", "m", "p", "c"], &case)?;
-    assert_eq!(rt; ended, Status::TooLong);
-    assert_eq!(rt; printed.as_slice(), b"too long: c\n".as_slice());
+    let (ended, printed) = ends(rt.alloc(), &["check", "m", "p", "c"], &none)?;
+    assert_eq!(rt; ended, Status::Model);
+    assert_eq!(rt; printed.as_slice(), b"model: outside the first form\n".as_slice());
     Ok(())
 }

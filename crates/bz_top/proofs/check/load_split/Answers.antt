@@ -36,6 +36,6 @@ returns-in-Err-read_part-clause-cause g c =
     subst (λ (text : List ℕ). IsModelText text c.in-Ok.model) c.as_slice.ensures.value c.in-Ok.ensures.reads in
     let held = held_at_first _ _ c.args.job.now PartFile _ c.in_ok-text.ensures.kept c.in_ok-text-2.ensures.whole in
     let stops : Reads {X = List ℕ} (λ part. IsPartText c.in_ok-text-2.text.items c.in-Ok.model part × IsStrict c.in-Ok.model part) (Err c.in-Err-read_part.stop) =
-    subst (λ (text : List ℕ). Reads {X = List ℕ} (λ part. IsPartText text c.in-Ok.model part × IsStrict c.in-Ok.model part) (Err c.in-Err-read_part.stop)) c.as_slice-in-Ok.ensures.value c.in-Err-read_part.ensures.reads in
+    subst (λ (text : List ℕ). Reads {X = List ℕ} (λ part. IsPartText text c.in-Ok.model part × IsStrict c.in-Ok.model part) (Err c.in-Err-read_part.stop)) c.as_slice-2.ensures.value c.in-Err-read_part.ensures.reads in
     part_refused texts_have_one_model _ _ _ _ _ _ _ c.in_ok-text.ensures.whole c.in_ok-text.ensures.within reads held
     c.in_ok-text-2.ensures.within stops c.refuse-in-Err-read_part.ensures
