@@ -1,12 +1,12 @@
 -- Least common multiples of two numbers and of many.
-use Rattle.std.specs.Prelude.{ℕ, suc, ◌+◌, ◌/◌, ◌<◌, ◌≤◌, ◌^◌, ◌≡◌, ◌≢◌, ℤ, pos, negsuc, ◌+ℤ◌, ◌*ℤ◌, ◌<ℤ◌, unsigned_abs, Option, None, Some, SomeIff, MatchOption}
+use Rattle.std.specs.Prelude.{ℕ, zero, suc, ◌+◌, ◌/◌, ◌%◌, ◌<◌, ◌≤◌, ◌^◌, ◌≡◌, ◌≢◌, ℤ, pos, negsuc, ◌+ℤ◌, ◌*ℤ◌, ◌<ℤ◌, unsigned_abs, Option, None, Some, SomeIff, MatchOption}
 use Rattle.std.specs.Int.{◌∣◌, IsGcd}
 use Rattle.std.proofs.Common.{refl, ap, sym, subst, ◌∙◌, arith, inl, inr}
 use Rattle.std.proofs.lemmas.Bool.{cases_eq}
 use Rattle.std.proofs.lemmas.Int.{ints, unsigned_abs-mul}
-use Rattle.std.proofs.lemmas.Nat.Gcd.{dvd_trans, le_of_dvd, dvd_antisymm}
+use Rattle.std.proofs.lemmas.Nat.Gcd.{dvd_trans, le_of_dvd, dvd_antisymm, IsGcd-from_zero, IsGcd-from_mod}
 use Rattle.std.proofs.Math.IntN.{*ℤ_comm}
-use Rattle.std.proofs.Math.Nat.{mul-div_cancel', dvd-mul_right, one-dvd}
+use Rattle.std.proofs.Math.Nat.{mul-div_cancel', dvd-mul_right, one-dvd, mod-lt, zero-lt-suc, eq-zero_of_zero-dvd}
 use Rattle.bz_algebra.specs.Numbers.{IsNarrow, IsWide}
 use Rattle.bz_algebra.proofs.Bounded.{by_lt}
 use Rattle.bz_algebra.proofs.Divisors.{Bezout, bezout, divides_multiple}
@@ -141,3 +141,36 @@ first_wide_least k n e a x h g w b = record {
   where
     next : k + 1 ≡ suc k
     next = omega arith
+
+-- ---- there is one
+gcd_exists : (n a b : ℕ) → b < n → (g : ℕ) × IsGcd a b g
+gcd_exists zero a b h = absurd (omega arith)
+gcd_exists (suc n) a zero h = (a, IsGcd-from_zero a 0 refl)
+gcd_exists (suc n) a (suc b) h = let f = gcd_exists n (suc b) (a % suc b) (omega (arith, mod-lt a {m = suc b} (zero-lt-suc b))) in (f.0, IsGcd-from_mod a (suc b) f.0 f.1)
+
+two_exists : (a b : ℤ) → (pos 0) <ℤ a → (pos 0) <ℤ b → (m : ℤ) × IsLeastOfTwo a b m
+two_exists a b h k = (part *ℤ b, least_of_two a b (pos g.0) part h k positive g.1 a_is)
+  where
+    g : (g : ℕ) × IsGcd (unsigned_abs a) (unsigned_abs b) g
+    g = gcd_exists (suc (unsigned_abs b)) (unsigned_abs a) (unsigned_abs b) (omega arith)
+
+    part : ℤ
+    part = pos (unsigned_abs a / g.0)
+
+    nonzero : g.0 ≢ 0
+    nonzero e = let z : unsigned_abs a ≡ 0 = eq-zero_of_zero-dvd (subst (λ (d : ℕ). d ∣ unsigned_abs a) e g.1.0) in omega (arith, ints, h, z)
+
+    positive : (pos 0) <ℤ (pos g.0)
+    positive = omega (arith, ints, nonzero)
+
+    a_is : a ≡ pos g.0 *ℤ part
+    a_is = sym (positive_is a h) ∙ multiple_of (pos g.0) (unsigned_abs a) positive g.1.0
+
+-- positive numbers have a least common multiple
+pub least_exists : (n : ℕ) (e : ℕ → ℤ) → ((k : ℕ) → k < n → (pos 0) <ℤ (e k)) → (m : ℤ) × IsLeastTo n e m
+least_exists zero e h = (pos 1, (least_none e).is_least)
+least_exists (suc n) e h =
+    let f = least_exists n e (λ k b. h k (omega arith)) in
+    let g = two_exists f.0 (e n) f.1.positive (h n (omega arith)) in
+    let next : n + 1 ≡ suc n = omega arith in
+    (g.0, subst (λ (i : ℕ). IsLeastTo i e g.0) next (least_more n e f.0 g.0 f.1 g.1))

@@ -1,8 +1,10 @@
+pub mod AnswersOfSigns
 pub mod BasicValues
 pub mod LeastMultiples
 pub mod Moves
 pub mod Outcomes
 pub mod PointSigns
+pub mod PointsExist
 pub mod RaySigns
 pub mod RisingOrders
 pub mod ShownAnswers

@@ -15,6 +15,7 @@ use Rattle.bz_lex.specs.Refusals.{IsRayBasis, IsFirstWidePlace, HasNoWidePlace, 
 use Rattle.bz_lex.specs.Shown.{HasPoint, HasLeastCost, IsFreeFall, IsFirstFall, own_entry, IsNarrowLeast, IsShownOrder, ShowsLeast, ShowsRay, GoesWideAtLeast, GoesWideAtRay, IsFirstWideRay, IsWideOver, AnswersShown}
 use Rattle.bz_lex.specs.Points.{IsRayColumn}
 use Rattle.bz_lex.specs.Refusals.{at_number}
+use Rattle.bz_lex.proofs.AnswersOfSigns.{answer_of_signs}
 use Rattle.bz_lex.proofs.Moves.{order_of, none_wide}
 use Rattle.bz_lex.proofs.ShownAnswers.{ray_falls, ray_column, same_column, ray_is, no_ray, least_is, none_is_wide, wide_multiple, wide_value, wide_move, least_signs_are, ray_signs_are}
 use Rattle.bz_lex.proofs.ShownBases.{shown_basis, is_order, number_small, point_of_answer, cost_of_answer}
@@ -36,7 +37,7 @@ outcome_narrow relaxed lp basis (Err k) r (inr e) h = subst (λ (x : Result (Opt
 
 pub outcome_refused : (relaxed : Bool) (lp : Lp) (basis : List ℕ) (o : Result Answer ℕ) (r : Result (Option Answer) LpStop) → AnswersShown relaxed basis o r → IsRightOutcome relaxed lp basis o → IfErr r (λ stop. IsAnswerRefusal relaxed lp basis stop)
 outcome_refused relaxed lp basis (Ok a) r e h = subst (λ (x : Result (Option Answer) LpStop). IfErr x (λ stop. IsAnswerRefusal relaxed lp basis stop)) (sym e) tt
-outcome_refused relaxed lp basis (Err k) r (inl e) h = subst (λ (x : Result (Option Answer) LpStop). IfErr x (λ stop. IsAnswerRefusal relaxed lp basis stop)) (sym e) (record { relaxed_is = refl; basis_is = refl; signs = h.0; wide = h.1 })
+outcome_refused relaxed lp basis (Err k) r (inl e) h = subst (λ (x : Result (Option Answer) LpStop). IfErr x (λ stop. IsAnswerRefusal relaxed lp basis stop)) (sym e) (record { relaxed_is = refl; basis_is = refl; has_answer = answer_of_signs relaxed lp basis h.0; wide = h.1 })
 outcome_refused relaxed lp basis (Err k) r (inr e) h = subst (λ (x : Result (Option Answer) LpStop). IfErr x (λ stop. IsAnswerRefusal relaxed lp basis stop)) (sym e) tt
 
 -- ---- a point of least cost

@@ -91,6 +91,11 @@ pub record IsAnswerOf (relaxed : Bool) (lp : Lp) (basis : List ℕ) (a : Answer)
   pub answer : IsAnswer relaxed lp a
   pub first_column : HasFirstColumn lp a
 
+-- the basis has an answer, however wide its numbers
+pub record HasAnswer (relaxed : Bool) (lp : Lp) (basis : List ℕ) : Type 0 where
+  pub answer : Answer
+  pub is_answer : IsAnswerOf relaxed lp basis answer
+
 -- no answer has this basis
 abbrev pub HasNoAnswer : Bool → Lp → List ℕ → Type 0
 HasNoAnswer relaxed lp basis = (a : Answer) → basis_of a ≡ basis → IsAnswer relaxed lp a → ⊥

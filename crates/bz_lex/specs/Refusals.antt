@@ -9,7 +9,7 @@ use Rattle.bz_tableau.specs.declared.answers.LpStop.TheVariants.{Wide, OutOfMemo
 use Rattle.bz_tableau.specs.declared.answers.WideAt.{WideAt}
 use Rattle.bz_tableau.specs.declared.answers.WideAt.TheVariants.{Build, Pivot, Den, Fold}
 use Rattle.bz_tableau.specs.declared.programs.Lp.{Lp}
-use Rattle.bz_lex.specs.Answers.{IsBasisList, AreMultipliersFor}
+use Rattle.bz_lex.specs.Answers.{IsBasisList, AreMultipliersFor, HasAnswer}
 use Rattle.bz_lex.specs.Points.{IsLeastMultiple, IsCommonDenominator, IsRayColumn}
 
 -- ---- the signs of an answer
@@ -25,7 +25,7 @@ pub record IsRayBasis (relaxed : Bool) (p : Program) (basis : ℕ → ℕ) (colu
   pub unrelaxed : relaxed ≡ false
   pub ray : IsRayColumn p basis column
 
--- no right side is negative, and the objective row isn't or the basis is that of a ray: these are the bases that have an answer, whose numbers may be wide
+-- no right side is negative, and the objective row isn't or the basis is that of a ray: these are the bases that have an answer, whose numbers may be wide (signs_are_those_of_answers)
 pub record HasAnswerSigns (relaxed : Bool) (p : Program) (basis : List ℕ) : Type 0 where
   pub is_basis : IsBasisList relaxed p basis
   pub right_sides : (i : ℕ) (v : ℕ → ℤ) → i < p.rows → IsRow (rows_of relaxed p) (place basis) i v → (pos 0) ≤ℤ (v (side (rows_of relaxed p)))
@@ -83,11 +83,11 @@ abbrev pub HasNoWidePlace : Bool → Lp → List ℕ → Type 0
 HasNoWidePlace relaxed lp basis = (i : ℕ) → IsWidePlace relaxed (program_of lp) (place basis) i → ⊥
 
 -- ---- refusals
--- the basis has an answer's signs, and this is the first of its columns where a number goes wide
+-- the basis has an answer, and this is the first of its columns where a number goes wide
 pub record NamesPlace (relaxed : Bool) (lp : Lp) (basis : List ℕ) (named_relaxed : Bool) (named_basis : List ℕ) (at : ℕ) : Type 0 where
   pub relaxed_is : named_relaxed ≡ relaxed
   pub basis_is : named_basis ≡ basis
-  pub signs : HasAnswerSigns relaxed (program_of lp) basis
+  pub has_answer : HasAnswer relaxed lp basis
   pub wide : IsFirstWidePlace relaxed (program_of lp) (place basis) at
 
 abbrev pub IsWideAnswer : Bool → Lp → List ℕ → WideAt → Type 0

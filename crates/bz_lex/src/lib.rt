@@ -2,6 +2,7 @@
 #![tactic(auto)]
 
 mod answering;
+mod laws;
 mod least;
 mod multiples;
 mod order;
@@ -10,6 +11,7 @@ mod signs;
 mod values;
 
 pub use answering::answer_at;
+pub use laws::signs_are_those_of_answers;
 
 #[cfg(test)]
 mod tests;
