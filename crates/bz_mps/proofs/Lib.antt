@@ -9,6 +9,7 @@ pub mod ModelRows
 pub mod ModelSame
 pub mod ModelTexts
 pub mod Once
+pub mod Places
 pub mod Refusals
 pub mod RowReading
 pub mod SectionReading

@@ -1,6 +1,6 @@
 -- What a reader has to see in a text's facts to make its model.
-use Rattle.std.specs.Prelude.{ℕ, ℤ, Bool, pos, ◌<◌, ◌≡◌, ◌≤◌, ◌≤ℤ◌, List, length, map, nat_eq, Option, IfSome}
-use Rattle.std.specs.List.{AllByRecursion, AllZip, IsDistinct, enumerate_from, zip}
+use Rattle.std.specs.Prelude.{ℕ, ℤ, Bool, pos, ◌<◌, ◌≡◌, ◌≤◌, ◌≤ℤ◌, List, [], ◌∷◌, ◌++◌, ◌==◌, if◌then◌else◌, length, map, nat_eq, Option, None, IfSome}
+use Rattle.std.specs.List.{slice_index_or, AllByRecursion, AllZip, IsDistinct, enumerate_from, zip}
 use Rattle.bz_algebra.specs.Sums.{AllBelow}
 use Rattle.bz_model.specs.declared.records.Column.{Column}
 use Rattle.bz_model.specs.declared.records.Model.{Model}
@@ -8,7 +8,7 @@ use Rattle.bz_num.specs.declared.Frac.{Frac}
 use Rattle.bz_num.specs.Row.{IsEntryFrom, IsSparse}
 use Rattle.bz_lines.specs.FieldLists.{Fields}
 use Rattle.bz_mps.specs.declared.model_columns.Entry.{Entry}
-use Rattle.bz_mps.specs.ModelText.{AreConsistent, Facts, IsColumnOf, IsModelOf, IsUpper, constraints, objective_place, same_place, terms_at, upper_of}
+use Rattle.bz_mps.specs.ModelText.{AreConsistent, Facts, IsColumnOf, IsModelOf, IsUpper, constraints, last_at, objective_place, same_place, terms_at, upper_of}
 
 -- the column of a term is from low on and below the count, and its number is neither zero nor wide
 pub record IsFitTerm (low count : ℕ) (t : ℕ × ℤ) : Type 0 where
@@ -61,3 +61,23 @@ pub record IsMadeOf (f : Facts) (m : Model) : Type 0 where
 pub record IsUpperBound (integer : Bool) (bound : Option ℤ) (upper : Option Frac) : Type 0 where
   pub upper_is : IsUpper (upper_of integer bound) upper
   pub not_negative : IfSome bound (λ u. pos 0 ≤ℤ u)
+
+-- the value stands at the place, where that is one of these, and nothing else changed
+pub record SetsAt {X : Type 0} (old : List X) (place : ℕ) (value : X) (new : List X) : Type 0 where
+  pub many : length new ≡ length old
+  pub each : (j : ℕ) (d : X) → j < length old → slice_index_or new j d ≡ (if place == j then value else slice_index_or old j d)
+
+-- the last number at each place below the count
+pub record AreLast (count : ℕ) (pairs : List (ℕ × ℤ)) (lasts : List (Option ℤ)) : Type 0 where
+  pub many : length lasts ≡ count
+  pub each : (j : ℕ) → j < count → slice_index_or lasts j None ≡ last_at j pairs
+
+-- the term of the entry stands behind those of its row, where that is one of these and the number is not zero
+pub record AddsTerm (old : List (List (ℕ × ℤ))) (entry : Entry) (new : List (List (ℕ × ℤ))) : Type 0 where
+  pub many : length new ≡ length old
+  pub each : (r : ℕ) → r < length old → slice_index_or new r [] ≡ slice_index_or old r [] ++ terms_at r (entry ∷ [])
+
+-- the terms of each row below the count
+pub record AreTermsByRow (count : ℕ) (entries : List Entry) (lists : List (List (ℕ × ℤ))) : Type 0 where
+  pub many : length lists ≡ count
+  pub each : (r : ℕ) → r < count → slice_index_or lists r [] ≡ terms_at r entries

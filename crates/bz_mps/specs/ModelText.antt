@@ -212,12 +212,16 @@ pub record AreConsistent (f : Facts) : Type 0 where
 abbrev pub terms_at : ℕ → List Entry → List (ℕ × ℤ)
 terms_at r entries = map (λ e. (e.column, e.number)) (filter (λ e. (e.row == r) && nat_lt 0 (unsigned_abs e.number)) entries)
 
--- the row has its name and its terms, and is at least its right side where its kind is G or E, and at most that where it is L or E
-pub record IsRowOf (entries : List Entry) (right_sides : List (ℕ × ℤ)) (r : ℕ × Fields) (row : Row) : Type 0 where
-  pub name : row.name ≡ row_name r.1
-  pub terms : row.terms ≡ terms_at r.0 entries
-  pub lower : row.lower ≡ (if is_kind (codes "L") r.1 then None else Some (right_side r.0 right_sides))
-  pub upper : row.upper ≡ (if is_kind (codes "G") r.1 then None else Some (right_side r.0 right_sides))
+-- the row of a line of ROWS has its name and its numbers, and is at least its right side where its kind is G or E, and at most that where it is L or E
+pub record IsRowWith (numbers : List (ℕ × ℤ)) (side : ℤ) (l : Fields) (row : Row) : Type 0 where
+  pub name : row.name ≡ row_name l
+  pub terms : row.terms ≡ numbers
+  pub lower : row.lower ≡ (if is_kind (codes "L") l then None else Some side)
+  pub upper : row.upper ≡ (if is_kind (codes "G") l then None else Some side)
+
+-- the row of a line of ROWS, which has its place, among these entries and right sides
+abbrev pub IsRowOf : List Entry → List (ℕ × ℤ) → ℕ × Fields → Row → Type 0
+IsRowOf entries right_sides r row = IsRowWith (terms_at r.0 entries) (right_side r.0 right_sides) r.1 row
 
 -- the fraction is the whole number
 pub record IsWholeNumber (z : ℤ) (f : Frac) : Type 0 where
@@ -235,13 +239,17 @@ IsUpper None (Some f) = ⊥
 IsUpper (Some z) None = ⊥
 IsUpper (Some z) (Some f) = IsWholeNumber z f
 
--- a column with its place, its name and whether it is an integer has the lower bound 0 and its upper bound, which isn't negative
-pub record IsColumnOf (bounds : List (ℕ × ℤ)) (c : ℕ × (List ℕ × Bool)) (column : Column) : Type 0 where
-  pub name : column.name ≡ c.1.0
-  pub integer : column.integer ≡ c.1.1
+-- a column with its last bound, its name and whether it is an integer has the lower bound 0 and its upper bound, which isn't negative
+pub record IsColumnWith (last : Option ℤ) (c : List ℕ × Bool) (column : Column) : Type 0 where
+  pub name : column.name ≡ c.0
+  pub integer : column.integer ≡ c.1
   pub lower : IsSomeAnd column.lower (IsWholeNumber (pos 0))
-  pub upper : IsUpper (upper_of c.1.1 (last_at c.0 bounds)) column.upper
-  pub not_negative : IfSome (last_at c.0 bounds) (λ u. pos 0 ≤ℤ u)
+  pub upper : IsUpper (upper_of c.1 last) column.upper
+  pub not_negative : IfSome last (λ u. pos 0 ≤ℤ u)
+
+-- a column with its place, its name and whether it is an integer, among these bounds
+abbrev pub IsColumnOf : List (ℕ × ℤ) → ℕ × (List ℕ × Bool) → Column → Type 0
+IsColumnOf bounds c column = IsColumnWith (last_at c.0 bounds) c.1 column
 
 -- the model has the facts: its columns and rows stand in the order of the text
 pub record IsModelOf (f : Facts) (m : Model) : Type 0 where

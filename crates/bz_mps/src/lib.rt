@@ -10,6 +10,7 @@ mod model_lines;
 mod model_made;
 mod model_made_rows;
 mod model_once;
+mod model_places;
 mod model_rows;
 mod model_sections;
 mod model_sides;

@@ -2,8 +2,9 @@
 ghost use Rattle.std.specs.Prelude.{◌≡◌, ◌++◌, ◌∷◌, [], IfOk, length};
 ghost use Rattle.bz_lines.specs.Reading.{Reads, ReadsAs};
 ghost use Rattle.bz_mps.specs.ModelReading.{AreColumnsOf, IsUpperBound};
-ghost use Rattle.bz_mps.specs.ModelText.{IsColumnOf, IsWholeNumber, last_at as last_in};
+ghost use Rattle.bz_mps.specs.ModelText.{IsColumnWith, IsWholeNumber, last_at as last_in};
 
+use crate::model_places::last_by_place;
 use bz_lines::{FormStop, Names};
 use bz_model::Column;
 use bz_num::{Frac, Name};
@@ -57,17 +58,16 @@ fn upper(integer: bool, bound: Option<i64>) -> Result<Option<Frac>, FormStop>
     }
 }
 
-/// The column at a place.
-fn column_at(
+/// The column whose last bound is this.
+fn column_with(
     alloc: Global,
-    place: usize,
     name: &[u8],
     integer: bool,
-    bounds: &[(usize, i64)],
+    bound: Option<i64>,
 ) -> Result<Column, FormStop>
-    ensures { Reads (IsColumnOf bounds.now (place, (name.now, integer))) result }
+    ensures { Reads (IsColumnWith bound (name.now, integer)) result }
 {
-    let upper = upper(integer, last_at(place, bounds))?;
+    let upper = upper(integer, bound)?;
     let name = copy_name(alloc, name)?;
     Ok(Column {
         name,
@@ -98,9 +98,10 @@ pub(crate) fn columns_of(
     if names.len() != integers.len() {
         return Err(FormStop::Outside);
     }
+    let lasts = last_by_place(alloc, integers.len(), bounds)?;
     let mut columns = Vec::new(alloc);
     for place in 0..integers.len() {
-        let column = column_at(alloc, place, names.at(place), integers[place], bounds)?;
+        let column = column_with(alloc, names.at(place), integers[place], lasts[place])?;
         push_column(&mut columns, column)?;
     }
     Ok(columns)
