@@ -65,7 +65,7 @@ pub fn run<D: Desk, O: Sink>(alloc: Global, words: &[String], desk: &mut D, out:
     // printed number is its objective.
     ensures done { result ≡ Status.Done → ShowsOptimumAsked (map string_bytes words.now) (D.held desk.old) (O.taken out.old) (O.taken out.new) }
 
-    // Words without a job are refused, and no others. Their files aren't touched.
+    // Words without a job are refused, and no others. The desk then has no fault; as any load may have one, none is made.
     ensures usage { result ≡ Status.Usage → IsJobless (map string_bytes words.now) }
     ensures usage_text { result ≡ Status.Usage → WhereTold (Takes usage_text) (O.taken out.old) (O.taken out.new) }
     ensures jobless { IsJobless (map string_bytes words.now) → (result ≡ Status.Usage) ⊎ (result ≡ Status.Write) }
