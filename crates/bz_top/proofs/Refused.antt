@@ -88,8 +88,8 @@ part_refused one (Some contents) job m model_text text Outside r holds within re
       text = text;
       held = record { held = holds'; within = within' };
       says_nothing = λ d h is strict.
-        let same : d.model ≡ m = one_model_read one contents job d.model m h model in
-        stops d.part (subst (λ (n : Model). IsPartText text n d.part) same is, subst (λ (n : Model). IsStrict n d.part) same strict);
+          let same : d.model ≡ m = one_model_read one contents job d.model m h model in
+          stops d.part (subst (λ (n : Model). IsPartText text n d.part) same is, subst (λ (n : Model). IsStrict n d.part) same strict);
     })
 
 -- the text of the certificate is outside of its form
@@ -118,11 +118,11 @@ check_refused one_model one_part one_cert (Some contents) job d text c Check agr
       certificate = c;
       reads = certificate;
       refused = λ e b accepted read passes fits.
-        let same : e ≡ d = one_accepted one_model one_part contents job e d accepted agreed in
-        let same_cert : b ≡ c = one_certificate_read one_cert contents job b c read certificate in
-        let at_d : Passes d.model d.part b = subst (λ (f : Decomposition). Passes f.model f.part b) same passes in
-        let fits_d : Fits d.model d.part b = subst (λ (f : Decomposition). Fits f.model f.part b) same fits in
-        refuses (subst (λ (a : Certificate). Passes d.model d.part a) same_cert at_d) (subst (λ (a : Certificate). Fits d.model d.part a) same_cert fits_d);
+          let same : e ≡ d = one_accepted one_model one_part contents job e d accepted agreed in
+          let same_cert : b ≡ c = one_certificate_read one_cert contents job b c read certificate in
+          let at_d : Passes d.model d.part b = subst (λ (f : Decomposition). Passes f.model f.part b) same passes in
+          let fits_d : Fits d.model d.part b = subst (λ (f : Decomposition). Fits f.model f.part b) same fits in
+          refuses (subst (λ (a : Certificate). Passes d.model d.part a) same_cert at_d) (subst (λ (a : Certificate). Fits d.model d.part a) same_cert fits_d);
     }
 check_refused one_model one_part one_cert held job d text c (Read _) agreed holds within reads refuses = absurd refuses
 check_refused one_model one_part one_cert held job d text c (TooLong _) agreed holds within reads refuses = absurd refuses

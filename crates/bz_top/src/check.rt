@@ -11,14 +11,14 @@ ghost use Rattle.bz_model.specs.Splits.{IsSplit};
 ghost use Rattle.bz_pass.specs.Certificates.{Passes, stated_objective};
 
 use crate::job::Job;
-use bz_lines::FormStop;
-use bz_cert::read_cert;
-use bz_mps::read_model;
-use bz_part::read_part;
 use crate::status::{File, Refusal};
+use bz_cert::read_cert;
 use bz_check::{Stated, passes, stated_of};
 use bz_io::{Desk, LoadError};
+use bz_lines::FormStop;
 use bz_model::Split;
+use bz_mps::read_model;
+use bz_part::read_part;
 use bz_pass::Certificate;
 use std::alloc::Global;
 

@@ -5,9 +5,13 @@ use std::alloc::{AllocError, Global};
 use std::test::Fail;
 
 const HOLDS: &str = "certificate holds: optimal 1\n";
+
 const NO_MODEL: &str = "model: outside the first form\n";
+
 const NO_PART: &str = "partition: outside the first form\n";
+
 const NO_CERT: &str = "certificate: outside the first form\n";
+
 const REFUSED: &str = "certificate: refused\n";
 
 /// A text of the smallest check with other lines in the place of some, and how the check ends.
@@ -458,21 +462,33 @@ fn ends_at_the_edges_as_the_forms_say(rt: HostRuntime) -> Result<(), Fail> {
     for edge in MODEL_EDGES {
         let text = changed(rt.alloc(), MODEL, &edge)?;
         let model = text.as_str();
-        let (ended, printed) = ends(rt.alloc(), &["check", "m", "p", "c"], &Case { model, ..FIRST })?;
+        let (ended, printed) = ends(
+            rt.alloc(),
+            &["check", "m", "p", "c"],
+            &Case { model, ..FIRST },
+        )?;
         assert_eq!(rt; ended, edge.status);
         assert_eq!(rt; printed.as_slice(), edge.text.as_bytes());
     }
     for edge in PART_EDGES {
         let text = changed(rt.alloc(), PART, &edge)?;
         let part = text.as_str();
-        let (ended, printed) = ends(rt.alloc(), &["check", "m", "p", "c"], &Case { part, ..FIRST })?;
+        let (ended, printed) = ends(
+            rt.alloc(),
+            &["check", "m", "p", "c"],
+            &Case { part, ..FIRST },
+        )?;
         assert_eq!(rt; ended, edge.status);
         assert_eq!(rt; printed.as_slice(), edge.text.as_bytes());
     }
     for edge in CERT_EDGES {
         let text = changed(rt.alloc(), CERT, &edge)?;
         let cert = text.as_str();
-        let (ended, printed) = ends(rt.alloc(), &["check", "m", "p", "c"], &Case { cert, ..FIRST })?;
+        let (ended, printed) = ends(
+            rt.alloc(),
+            &["check", "m", "p", "c"],
+            &Case { cert, ..FIRST },
+        )?;
         assert_eq!(rt; ended, edge.status);
         assert_eq!(rt; printed.as_slice(), edge.text.as_bytes());
     }
@@ -482,8 +498,18 @@ fn ends_at_the_edges_as_the_forms_say(rt: HostRuntime) -> Result<(), Fail> {
 #[test]
 fn takes_a_sum_at_the_limit_and_none_above(rt: HostRuntime) -> Result<(), Fail> {
     let all: [(&str, &str, Status, &[u8]); 3] = [
-        (WIDE_MODEL, WIDEST, Status::Done, b"certificate holds: optimal -1\n"),
-        (WIDE_MODEL, TOO_WIDE, Status::Cert, b"certificate: refused\n"),
+        (
+            WIDE_MODEL,
+            WIDEST,
+            Status::Done,
+            b"certificate holds: optimal -1\n",
+        ),
+        (
+            WIDE_MODEL,
+            TOO_WIDE,
+            Status::Cert,
+            b"certificate: refused\n",
+        ),
         (HALF_MODEL, HALF, Status::Cert, b"certificate: refused\n"),
     ];
     for (model, cert, status, text) in all {
@@ -507,7 +533,12 @@ fn takes_a_file_at_its_limit_and_none_above(rt: HostRuntime) -> Result<(), Fail>
     full.push_str("x".repeat(alloc, limit - MODEL.len())?.as_str())?;
     let long = "x".repeat(alloc, limit + 1)?;
     let all: [(&str, &str, Status, &[u8]); 3] = [
-        (full.as_str(), PART, Status::Done, b"certificate holds: optimal 1\n"),
+        (
+            full.as_str(),
+            PART,
+            Status::Done,
+            b"certificate holds: optimal 1\n",
+        ),
         (long.as_str(), PART, Status::TooLong, b"too long: m\n"),
         (MODEL, long.as_str(), Status::TooLong, b"too long: p\n"),
     ];
@@ -548,6 +579,9 @@ fn refuses_a_certificate_that_is_too_long(rt: HostRuntime) -> Result<(), Fail> {
     };
     let (ended, printed) = ends(rt.alloc(), &["check", "m", "p", "c"], &none)?;
     assert_eq!(rt; ended, Status::Model);
-    assert_eq!(rt; printed.as_slice(), b"model: outside the first form\n".as_slice());
+    assert_eq!(rt;
+        printed.as_slice(),
+        b"model: outside the first form\n".as_slice()
+    );
     Ok(())
 }

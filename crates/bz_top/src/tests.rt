@@ -49,7 +49,11 @@ fn numbers(alloc: Global, number: Option<u64>) -> Result<Vec<u64>, AllocError> {
 }
 
 /// How the program ends on these words, and what it prints.
-pub(crate) fn ends(alloc: Global, words: &[&str], case: &Case) -> Result<(Status, Vec<u8>), AllocError> {
+pub(crate) fn ends(
+    alloc: Global,
+    words: &[&str],
+    case: &Case,
+) -> Result<(Status, Vec<u8>), AllocError> {
     let mut files = Vec::new(alloc);
     files.push((bytes(alloc, "m")?, bytes(alloc, case.model)?))?;
     files.push((bytes(alloc, "p")?, bytes(alloc, case.part)?))?;
