@@ -1,5 +1,5 @@
 //! Whether no place of a model's text is given a number twice.
-ghost use Rattle.std.specs.Prelude.{◌≡◌, ◌↔◌, IfOk, IsTrue, map, nat_eq};
+ghost use Rattle.std.specs.Prelude.{◌↔◌, IfOk, IsTrue, map, nat_eq};
 ghost use Rattle.std.specs.List.{IsDistinct};
 ghost use Rattle.bz_mps.specs.ModelText.{same_place};
 

@@ -1,7 +1,5 @@
 //! Numbers and terms by their place.
-ghost use Rattle.std.specs.Prelude.{◌≡◌, ◌++◌, ◌∷◌, ◌+◌, ◌<◌, [], ℕ, IfOk, None, Some, length, map, ◌&&◌, ◌==◌, nat_lt, if◌then◌else◌};
-ghost use Rattle.std.specs.List.{slice_index_or};
-ghost use Rattle.std.specs.Int.RustNames.{unsigned_abs};
+ghost use Rattle.std.specs.Prelude.{◌≡◌, ◌++◌, ◌∷◌, [], IfOk, Some, map};
 ghost use Rattle.bz_mps.specs.ModelReading.{AddsTerm, AreLast, AreTermsByRow, SetsAt};
 
 use crate::model_columns::Entry;

@@ -52,10 +52,12 @@ pub(crate) struct Sections<'a> {
 }
 
 /// The sections of these lines.
-fn take_sections<'a>(alloc: Global, lines: VecDeque<TextLine<'a>>) -> Result<Sections<'a>, FormStop>
+fn take_sections<'a>(
+    alloc: Global,
+    mut lines: VecDeque<TextLine<'a>>,
+) -> Result<Sections<'a>, FormStop>
     ensures { ReadsAs sections_of (AreLinesOf lines.entry.items) result }
 {
-    let mut lines = lines;
     let name = take_name(&mut lines);
     let rows = take_section(alloc, &mut lines, b"ROWS")?;
     let columns = take_section(alloc, &mut lines, b"COLUMNS")?;
