@@ -6,5 +6,8 @@
 mod laws;
 mod records;
 
-pub use laws::{parts_have_a_point, passing_is_optimal};
+pub use laws::{
+    leaves_bound_their_boxes, parts_have_a_point, passing_is_optimal, root_box_has_all_points,
+    valid_cuts_hold,
+};
 pub use records::{Certificate, Cut, Leaf};
