@@ -1,5 +1,10 @@
 pub mod Coefs
 pub mod Comparing
+pub mod DecimalEnds
+pub mod DecimalFronts
+pub mod DecimalLaws
+pub mod DecimalReadings
+pub mod DecimalValues
 pub mod Divisors
 pub mod Folds
 pub mod Reduces

@@ -1,3 +1,5 @@
+pub mod DecimalSteps
+pub mod Decimals
 pub mod Fold
 pub mod Primitive
 pub mod Row

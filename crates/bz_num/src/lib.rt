@@ -2,6 +2,8 @@
 #![tactic(auto)]
 
 mod compare;
+mod decimal;
+mod digits;
 mod divisor;
 mod fraction;
 mod items;
@@ -12,6 +14,7 @@ mod reduce;
 mod row;
 
 pub use compare::{cmp_frac, cmp_quotients};
+pub use decimal::{Dec, NumFault, decimals_have_one_value, read_decimal};
 pub use divisor::gcd;
 pub use fraction::Frac;
 pub use items::{Items, Name};

@@ -1,7 +1,7 @@
 //! Worked values.
 use crate::{
-    Folding, Frac, Items, Name, OutOfMemory, SparseRow, WideSum, cmp_frac, cmp_quotients, fold,
-    gcd, primitive,
+    Dec, Folding, Frac, Items, Name, NumFault, OutOfMemory, SparseRow, WideSum, cmp_frac,
+    cmp_quotients, fold, gcd, primitive, read_decimal,
 };
 use std::cmp::Ordering;
 use std::test::Fail;
@@ -93,6 +93,8 @@ fn types_cross_threads() {
     crosses_threads::<WideSum>();
     crosses_threads::<Folding>();
     crosses_threads::<OutOfMemory>();
+    crosses_threads::<Dec>();
+    crosses_threads::<NumFault>();
 }
 
 #[test]
@@ -113,4 +115,59 @@ fn fractions_in_order(rt: HostRuntime) {
     let half = Frac { num: 1, den: 2 };
     let third = Frac { num: 1, den: 3 };
     assert_eq!(rt; cmp_frac(&third, &half), Ordering::Less);
+}
+
+fn reads(mant: i128, exp: i32) -> Result<Dec, NumFault> {
+    Ok(Dec { mant, exp })
+}
+
+fn stops(at: usize) -> Result<Dec, NumFault> {
+    Err(NumFault::Form { at })
+}
+
+#[test]
+fn decimals(rt: HostRuntime) {
+    let wide = Err(NumFault::TooWide);
+    let table = [
+        (b"-12.50e1".as_slice(), reads(-125, 0)),
+        (b".5", reads(5, -1)),
+        (b"5.", reads(5, 0)),
+        (b"0.0", reads(0, 0)),
+        (b"1.e3", reads(1, 3)),
+        (b"1d-05", reads(1, -5)),
+        (b"+1E+00030", reads(1, 30)),
+        (b"1e31", wide),
+        (b"10e30", wide),
+        (b"10000000000e-40", reads(1, -30)),
+        (b"1e-31", wide),
+        (
+            b"999999999999999999999999999999",
+            reads(999999999999999999999999999999, 0),
+        ), // thirty digits
+        (b"1000000000000000000000000000001", wide), // thirty-one digits
+        (b"1000000000000000000000000000000", reads(1, 30)), // thirty zeros
+        (
+            b"1000000000000000000000000000000000000000000D-40",
+            reads(1, 2),
+        ), // forty-two zeros
+        (b"0000000000000000000000000000000007.50", reads(75, -1)),
+        (b"0.000000000000000000000000000001", reads(1, -30)), // thirty places
+        (b"1e000000000000000000000005", reads(1, 5)),
+        (b"1e99999999999999999999", wide),
+        (b"1e-340282366920938463463374607431768211455", wide), // 2^128 - 1
+        (b"0e99999999999999999999", reads(0, 0)),
+        (b"", stops(0)),
+        (b"+", stops(1)),
+        (b".", stops(1)),
+        (b"e1", stops(0)),
+        (b"--1", stops(1)),
+        (b"1..2", stops(2)),
+        (b"12x", stops(2)),
+        (b"1e", stops(2)),
+        (b"1e+", stops(3)),
+        (b"1e5.0", stops(3)),
+    ];
+    for (at, (text, want)) in table.into_iter().enumerate() {
+        assert_eq!(rt; read_decimal(text), want, "at {at}");
+    }
 }
