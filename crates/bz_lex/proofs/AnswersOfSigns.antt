@@ -20,7 +20,8 @@ use Rattle.bz_tableau.specs.declared.programs.Lp.{Lp}
 use Rattle.bz_lex.specs.Answers.{IsBasisList, IsLeast, IsRay, IsAnswer, HasAnswer, basis_of}
 use Rattle.bz_lex.specs.Points.{IsPoint, MeetsRows, IsDirection, FallsFreely, MakesRay, IsRayColumn}
 use Rattle.bz_lex.specs.Refusals.{HasLeastSigns, HasAnswerSigns}
-use Rattle.bz_lex.proofs.PointSigns.{point_meets, point_signs, objective_same, multipliers_by_signs, signs_by_multipliers, same_cost}
+use Rattle.bz_tableau.proofs.OneObjective.{objective_same}
+use Rattle.bz_lex.proofs.PointSigns.{point_meets, point_signs, multipliers_by_signs, signs_by_multipliers, same_cost}
 use Rattle.bz_lex.proofs.PointsExist.{listed, length_listed, entry_listed, denominator_exists, point_exists}
 use Rattle.bz_lex.proofs.RaySigns.{AreRaySigns, direction_signs, signs_make_ray, shorter_direction, shorter_falls}
 

@@ -11,6 +11,7 @@ use Rattle.bz_algebra.proofs.Programs.{own, own_is, own_row, combination_columns
 use Rattle.bz_algebra.proofs.Ring.{*ℤ_assoc, neg_mul, mul_add, add_mul, mul_zero, zero_mul, mul_one, mul_nonnegative, cancel_le_right}
 use Rattle.bz_algebra.proofs.SumLemmas.{upto_same, upto_add, upto_scale, upto_scale_right, upto_split, upto_only, upto_zeros}
 use Rattle.bz_algebra.proofs.Uniqueness.{row_unique}
+use Rattle.bz_tableau.proofs.OneObjective.{objective_is as objective_of}
 use Rattle.bz_lex.proofs.Wholes.{IsWhole, only_zero, extended, extended_before, extended_slack, extended_meets, whole_of_half, basic_or_not, sums_at}
 use Rattle.bz_lex.specs.Answers.{AreMultipliersFor, IsSameCost}
 use Rattle.bz_lex.specs.Points.{IsOutside, terms, IsPoint, MeetsRows}
@@ -70,15 +71,6 @@ pub point_signs : (s : Equations) (basis : ℕ → ℕ) (w : ℕ → ℕ → ℤ
 point_signs s basis w z den t p m = signs_by_meets s basis w t z den p m
 
 -- ---- the objective row
--- an objective row with equal numbers
-pub objective_same : (relaxed : Bool) (p : Program) (basis : ℕ → ℕ) (d e : ℤ) (y x : ℕ → ℤ) → IsObjectiveRow relaxed p basis d y → e ≡ d → ((i : ℕ) → i < p.rows → x i ≡ y i) → IsObjectiveRow relaxed p basis e x
-objective_same relaxed p basis d e y x o g h = record {
-  positive = subst (λ (t : ℤ). (pos 0) <ℤ t) (sym g) o.positive;
-  primitive = λ k l m. o.primitive k (subst (λ (t : ℤ). k ∣ unsigned_abs t) g l) (λ i b. subst (λ (t : ℤ). k ∣ unsigned_abs t) (h i b) (m i b));
-  columns = λ k b l. (λ j. upto_same p.rows (λ i. x i *ℤ row_entry relaxed p i (basis k)) (λ i. y i *ℤ row_entry relaxed p i (basis k)) (λ i c. ap (λ (t : ℤ). t *ℤ row_entry relaxed p i (basis k)) (h i c)) j +ℤ (g j *ℤ objective_entry relaxed p (basis k))) ∙ o.columns k b l;
-  slacks = λ k i b c f. h i c ∙ o.slacks k i b c f;
-}
-
 module _ (relaxed : Bool) (p : Program) (basis : ℕ → ℕ) (w : ℕ → ℕ → ℤ) (tableau : IsTableau (equations_of relaxed p) (with_factor relaxed p basis) w) where
   abbrev all : Equations
   all = equations_of relaxed p
@@ -136,36 +128,6 @@ module _ (relaxed : Bool) (p : Program) (basis : ℕ → ℕ) (w : ℕ → ℕ �
           ∙ upto_same p.rows _ _ (λ i b. sym (mul_add (y i) (terms few f i) (f (all.slack + i))) ∙ ap (λ (t : ℤ). y i *ℤ t) (h i b) ∙ sym (*ℤ_assoc (y i) (p.rhs i) r))
           ∙ upto_scale_right p.rows (λ i. y i *ℤ p.rhs i) r
 
-  -- an objective row of the basis is this one
-  pub objective_is : (d : ℤ) (y : ℕ → ℤ) → IsObjectiveRow relaxed p basis d y → (last (factor relaxed p) ≡ d) × ((i : ℕ) → i < p.rows → last (all.slack + i) ≡ y i)
-  objective_is d y o = (same (factor relaxed p) (omega arith) ∙ made_factor, λ i b. same (all.slack + i) (omega arith) ∙ made_slack i b)
-    where
-      times : ℕ → ℤ
-      times = with_last p.rows y d
-
-      made : ℕ → ℤ
-      made j = upto (suc p.rows) (λ i. times i *ℤ own all i j)
-
-      combination : IsCombination all made
-      combination = combination_upto all (suc p.rows) times (own all) (λ i b. (own_row all i (own all i) b (own_is all i b)).combination)
-
-      at_slack : (l : ℕ) → l < suc p.rows → made (all.slack + l) ≡ times l
-      at_slack l b = upto_only (suc p.rows) l (λ i. times i *ℤ own all i (all.slack + l)) b
-          (λ i c n. ap (λ (t : ℤ). times i *ℤ t) ((own_is all i c).others l b (λ e. n (sym e))) ∙ mul_zero (times i))
-          ∙ ap (λ (t : ℤ). times l *ℤ t) ((own_is all l b).own) ∙ mul_one (times l)
-
-      made_factor : made (factor relaxed p) ≡ d
-      made_factor = at_slack p.rows (omega arith) ∙ with_last_at p.rows y d
-
-      made_slack : (i : ℕ) → i < p.rows → made (all.slack + i) ≡ y i
-      made_slack i b = at_slack i (omega arith) ∙ with_last_before p.rows y d i b
-
-      row : IsRow all (with_factor relaxed p basis) p.rows made
-      row = row_of_objective relaxed p basis made tableau.columns combination (objective_same relaxed p basis d (made (factor relaxed p)) y (λ i. made (all.slack + i)) o made_factor made_slack)
-
-      same : (j : ℕ) → j ≤ side all → last j ≡ made j
-      same j b = row_unique all (with_factor relaxed p basis) w made p.rows tableau (omega arith) row j b
-
   -- its number in a column, by the multipliers
   term_is : (d : ℤ) (y : ℕ → ℤ) → (last (factor relaxed p) ≡ d) × ((i : ℕ) → i < p.rows → last (all.slack + i) ≡ y i) → (j : ℕ) → j < all.slack → last j ≡ (d *ℤ objective_entry relaxed p j) +ℤ upto p.rows (λ i. y i *ℤ row_entry relaxed p i j)
   term_is d y same j b = last_columns j b
@@ -177,17 +139,17 @@ module _ (relaxed : Bool) (p : Program) (basis : ℕ → ℕ) (w : ℕ → ℕ �
 
   -- no number of the row is negative where those of the multipliers aren't, and the other way
   pub multipliers_by_signs : (d : ℤ) (y : ℕ → ℤ) → IsObjectiveRow relaxed p basis d y → ((j : ℕ) → j < side few → (pos 0) ≤ℤ (last j)) → AreMultipliersFor relaxed p d y
-  multipliers_by_signs d y o h = let same = objective_is d y o in record {
+  multipliers_by_signs d y o h = let same = objective_of relaxed p basis w tableau d y o in record {
     multipliers = λ i b. subst (λ (t : ℤ). (pos 0) ≤ℤ t) (same.1 i b) (h (all.slack + i) (omega arith));
     columns = λ j b. subst (λ (t : ℤ). (pos 0) ≤ℤ t) (term_is d y same j b) (h j (omega arith));
   }
 
   pub signs_by_multipliers : (d : ℤ) (y : ℕ → ℤ) → IsObjectiveRow relaxed p basis d y → AreMultipliersFor relaxed p d y → (j : ℕ) → j < side few → (pos 0) ≤ℤ (last j)
   signs_by_multipliers d y o m j b = by_lt j all.slack
-      (λ l. let same = objective_is d y o in
+      (λ l. let same = objective_of relaxed p basis w tableau d y o in
       subst (λ (t : ℤ). (pos 0) ≤ℤ t) (sym (term_is d y same j l)) (m.columns j l))
       (λ l. let e : all.slack + (j - all.slack) ≡ j = omega arith in
-      subst (λ (i : ℕ). (pos 0) ≤ℤ (last i)) e (subst (λ (t : ℤ). (pos 0) ≤ℤ t) (sym ((objective_is d y o).1 (j - all.slack) (omega arith))) (m.multipliers (j - all.slack) (omega arith))))
+      subst (λ (i : ℕ). (pos 0) ≤ℤ (last i)) e (subst (λ (t : ℤ). (pos 0) ≤ℤ t) (sym ((objective_of relaxed p basis w tableau d y o).1 (j - all.slack) (omega arith))) (m.multipliers (j - all.slack) (omega arith))))
 
   -- a sum with the objective row over what is 0 outside the basis but at c
   pub objective_at : (few_rows : ℕ → ℕ → ℤ) → IsTableau few basis few_rows → (f : ℕ → ℤ) (c : ℕ) → c < side few → ((j : ℕ) → j < side few → j ≢ c → IsOutside few basis j → f j ≡ pos 0) → upto (side few) (λ j. last j *ℤ f j) ≡ last c *ℤ f c
@@ -207,8 +169,8 @@ module _ (relaxed : Bool) (p : Program) (basis : ℕ → ℕ) (w : ℕ → ℕ �
   same_cost v t z den d y point o = turned (upto p.rows (λ i. y i *ℤ p.rhs i)) den d (upto all.slack (λ j. objective_entry relaxed p j *ℤ z j))
       (sym (objective_nowhere v t (extended few z den) (point_outside few basis v t z den point))
       ∙ objective_sum (extended few z den) den (λ i b. extended_meets few z den i)
-      ∙ (λ k. (upto_same p.rows (λ i. last (all.slack + i) *ℤ p.rhs i) (λ i. y i *ℤ p.rhs i) (λ i b. ap (λ (x : ℤ). x *ℤ p.rhs i) ((objective_is d y o).1 i b)) k *ℤ den)
-      +ℤ ((objective_is d y o).0 k *ℤ upto_same all.slack (λ j. objective_entry relaxed p j *ℤ extended few z den j) (λ j. objective_entry relaxed p j *ℤ z j) (λ j b. ap (λ (x : ℤ). objective_entry relaxed p j *ℤ x) (extended_before few z den j b)) k)))
+      ∙ (λ k. (upto_same p.rows (λ i. last (all.slack + i) *ℤ p.rhs i) (λ i. y i *ℤ p.rhs i) (λ i b. ap (λ (x : ℤ). x *ℤ p.rhs i) ((objective_of relaxed p basis w tableau d y o).1 i b)) k *ℤ den)
+      +ℤ ((objective_of relaxed p basis w tableau d y o).0 k *ℤ upto_same all.slack (λ j. objective_entry relaxed p j *ℤ extended few z den j) (λ j. objective_entry relaxed p j *ℤ z j) (λ j b. ap (λ (x : ℤ). objective_entry relaxed p j *ℤ x) (extended_before few z den j b)) k)))
     where
       turned : (a b e f : ℤ) → pos 0 ≡ (a *ℤ b) +ℤ (e *ℤ f) → f *ℤ e ≡ neg_ℤ a *ℤ b
       turned a b e f h = omega (arith, ints, neg_mul a b, h)

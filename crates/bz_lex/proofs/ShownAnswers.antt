@@ -20,7 +20,8 @@ use Rattle.bz_lex.specs.Points.{IsOutside, IsPoint, IsDirection, FallsFreely, Ma
 use Rattle.bz_lex.specs.Refusals.{at_number, IsRayBasis, IsWideValue, IsWidePlace, IsFirstWidePlace, HasNoWidePlace, HasAnswerSigns}
 use Rattle.bz_lex.specs.Shown.{HasPoint, HasLeastCost, IsFreeFall, IsFirstFall, own_entry, IsLeastTo, IsNarrowLeast, IsFirstWideLeast, IsWideOver, IsShownOrder, IsShownLeast, IsShownMove, IsShownRay}
 use Rattle.bz_lex.proofs.LeastMultiples.{least_divides, divides_narrow, least_same}
-use Rattle.bz_lex.proofs.PointSigns.{point_meets, objective_same, multipliers_by_signs, same_cost}
+use Rattle.bz_tableau.proofs.OneObjective.{objective_same}
+use Rattle.bz_lex.proofs.PointSigns.{point_meets, multipliers_by_signs, same_cost}
 use Rattle.bz_lex.proofs.RaySigns.{AreRaySigns, direction_signs, signs_make_ray, signs_direction, signs_fall, shorter_direction, shorter_falls, falls_outside}
 use Rattle.bz_lex.proofs.ShownBases.{few_rows, all_rows, slack_is, count_is, side_is, basis_list, right_sides, any_right_side, last_signs, least_signs, last_number, is_order, find, common_denominator, multiple_up_to, not_wide, shown_point}
 use Rattle.bz_lex.proofs.Wholes.{IsHalf, IsWhole, only_at, only_here, only_off, extended, extended_before, whole_of_half}

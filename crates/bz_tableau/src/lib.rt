@@ -15,7 +15,9 @@ mod tableau;
 
 pub use answers::{Answer, LpStop, Vals, WideAt};
 pub use division::quotient;
-pub use laws::tableau_has_rows_of_basis;
+pub use laws::{
+    bases_are_few, objective_rows_are_unique, rows_are_unique, tableau_has_rows_of_basis,
+};
 pub use programs::{Lp, LpRow};
 pub use reducing::{common_divisor, divide_all};
 pub use tableau::Tableau;
