@@ -18,7 +18,7 @@ use Rattle.bz_lex.specs.Refusals.{at_number}
 use Rattle.bz_lex.proofs.AnswersOfSigns.{answer_of_signs}
 use Rattle.bz_lex.proofs.Moves.{order_of, none_wide}
 use Rattle.bz_lex.proofs.ShownAnswers.{ray_falls, ray_column, same_column, ray_is, no_ray, least_is, none_is_wide, wide_multiple, wide_value, wide_move, least_signs_are, ray_signs_are}
-use Rattle.bz_lex.proofs.ShownBases.{shown_basis, is_order, number_small, point_of_answer, cost_of_answer}
+use Rattle.bz_lex.proofs.ShownBases.{few_rows, has_point, shown_basis, is_order, number_small, point_of_answer, cost_of_answer}
 
 -- the outcome is the basis's answer, without a wide place, or its first wide place
 abbrev pub IsRightOutcome : Bool → Lp → List ℕ → Result Answer ℕ → Type 0
@@ -146,6 +146,16 @@ module _ (relaxed : Bool) (lp : Lp) (t : Table) (h : IsTableauOf relaxed lp t) w
   none_without_cost n m (Ray basis column z d) e a =
       let b = subst (λ (l : List ℕ). IsRay (program_of lp) l column z d) e a.1 in
       m a.0 column (ray_falls lp t (unrelaxed a.0) column (entry d, b.direction, b.falls))
+
+  -- ---- nor its signs
+  pub no_signs_without_point : (HasPoint t → ⊥) → HasAnswerSigns relaxed (program_of lp) t.basis → ⊥
+  no_signs_without_point n s = n (has_point relaxed lp t h (λ k b. s.right_sides k (shown t k) b ((few_rows relaxed lp t h).rows k b)))
+
+  pub no_signs_without_cost : (HasLeastCost t → ⊥) → (relaxed ≡ false → (c : ℕ) → IsFreeFall t c → ⊥) → HasAnswerSigns relaxed (program_of lp) t.basis → ⊥
+  no_signs_without_cost n m s = elim s.signs [
+    | inl l ↦ n (cost_of_answer relaxed lp t h l.den l.y l.objective l.bounds)
+    | inr r ↦ m r.1.unrelaxed r.0 (ray_falls lp t (unrelaxed r.1.unrelaxed) r.0 r.1.ray.makes)
+  ]
 
 pub ray_right : (relaxed : Bool) (lp : Lp) (t : Table) → IsTableauOf relaxed lp t → relaxed ≡ false → HasPoint t → (column : ℕ) → IsFirstFall t column → (o : Result Answer ℕ) → MatchResult o (λ a. ShowsRay t column a) (λ k. GoesWideAtRay t column k) → IsRightOutcome relaxed lp t.basis o
 ray_right relaxed lp t h e p column f o w = subst (λ (b : Bool). IsRightOutcome b lp t.basis o) (sym e) (ray_outcome lp t (subst (λ (b : Bool). IsTableauOf b lp t) e h) p column f o w)

@@ -104,3 +104,9 @@ HasNoAnswer relaxed lp basis = (a : Answer) → basis_of a ≡ basis → IsAnswe
 abbrev pub AnswersBasis : Bool → Lp → List ℕ → Option Answer → Type 0
 AnswersBasis relaxed lp basis None = HasNoAnswer relaxed lp basis
 AnswersBasis relaxed lp basis (Some a) = IsAnswerOf relaxed lp basis a
+
+-- a point of least cost
+abbrev pub NamesLeast : Answer → Type 0
+NamesLeast (Least basis z y) = Unit {0}
+NamesLeast (Empty basis y) = ⊥
+NamesLeast (Ray basis column z d) = ⊥

@@ -1,9 +1,10 @@
 -- Where the numbers of a basis's answer go wide.
-use Rattle.std.specs.Prelude.{ℕ, suc, ◌<◌, ◌≡◌, ◌⊎◌, ℤ, pos, ◌*ℤ◌, ◌≤ℤ◌, Bool, false, List, length, slice_index_or}
+use Rattle.std.specs.Prelude.{ℕ, suc, ◌<◌, ◌≡◌, ◌⊎◌, ℤ, pos, ◌*ℤ◌, ◌≤ℤ◌, Bool, false, List, length, slice_index_or, Option, None, Some}
 use Rattle.bz_algebra.specs.Numbers.{IsNarrow, IsWide}
 use Rattle.bz_algebra.specs.Tableaus.{Equations, side, Program, IsRow, IsObjectiveRow, rows_of}
 use Rattle.bz_tableau.specs.Laws.{place}
 use Rattle.bz_tableau.specs.Programs.{program_of}
+use Rattle.bz_tableau.specs.declared.answers.Answer.{Answer}
 use Rattle.bz_tableau.specs.declared.answers.LpStop.{LpStop}
 use Rattle.bz_tableau.specs.declared.answers.LpStop.TheVariants.{Wide, OutOfMemory}
 use Rattle.bz_tableau.specs.declared.answers.WideAt.{WideAt}
@@ -30,6 +31,11 @@ pub record HasAnswerSigns (relaxed : Bool) (p : Program) (basis : List ℕ) : Ty
   pub is_basis : IsBasisList relaxed p basis
   pub right_sides : (i : ℕ) (v : ℕ → ℤ) → i < p.rows → IsRow (rows_of relaxed p) (place basis) i v → (pos 0) ≤ℤ (v (side (rows_of relaxed p)))
   pub signs : HasLeastSigns relaxed p (place basis) ⊎ ((column : ℕ) × IsRayBasis relaxed p (place basis) column)
+
+-- where no answer is given, the basis hasn't the signs of one
+abbrev pub LacksSigns : Bool → Lp → List ℕ → Option Answer → Type 0
+LacksSigns relaxed lp basis None = HasAnswerSigns relaxed (program_of lp) basis → ⊥
+LacksSigns relaxed lp basis (Some a) = Unit {0}
 
 -- ---- wide places
 -- in the order of the columns, the least common multiple of the basic columns' entries up to the column at place i is wide

@@ -3,7 +3,7 @@ ghost use Rattle.std.specs.Prelude.{◌≡◌, ◌<◌, ◌^◌, IfOk, IfErr, If
 ghost use Rattle.bz_tableau.specs.Programs.{IsLp, lp_equations};
 ghost use Rattle.bz_tableau.specs.Tables.{IsTableauOf};
 ghost use Rattle.bz_lex.specs.Answers.{AnswersBasis};
-ghost use Rattle.bz_lex.specs.Refusals.{HasNoWidePlace, IsAnswerRefusal};
+ghost use Rattle.bz_lex.specs.Refusals.{HasNoWidePlace, IsAnswerRefusal, LacksSigns};
 ghost use Rattle.bz_lex.specs.Shown.{AnswersShown};
 
 use crate::least::least_answer;
@@ -13,8 +13,8 @@ use bz_num::Items;
 use bz_tableau::{Answer, Lp, LpStop, Tableau, WideAt};
 use std::alloc::{AllocError, Global};
 
-// How many columns stand before the slacks.
-fn first_slack(lp: &Lp, relaxed: bool) -> u32
+/// How many columns stand before the slacks.
+pub fn first_slack(lp: &Lp, relaxed: bool) -> u32
     requires { IsLp lp.now }
     ensures { result ≡ (lp_equations relaxed lp.now).slack }
 {
@@ -56,6 +56,7 @@ pub fn answer_at(
     requires lp { IsLp lp.now }
     requires tableau { IsTableauOf relaxed lp.now tableau.now }
     ensures answer { IfOk result (λ outcome. AnswersBasis relaxed lp.now tableau.now.basis outcome) }
+    ensures signs { IfOk result (λ outcome. LacksSigns relaxed lp.now tableau.now.basis outcome) }
     ensures narrow { IfOk result (λ outcome. IfSome outcome (λ _. HasNoWidePlace relaxed lp.now tableau.now.basis)) }
     ensures refused { IfErr result (λ stop. IsAnswerRefusal relaxed lp.now tableau.now.basis stop) }
 {

@@ -5,8 +5,8 @@ ghost use Rattle.bz_lex.specs.Refusals.{IsRisingOrder};
 
 use std::alloc::{AllocError, Global};
 
-// The place of a column in the basis.
-fn place_of(basis: &[u32], column: u32) -> Option<usize>
+/// The place of a column in the basis.
+pub fn place_of(basis: &[u32], column: u32) -> Option<usize>
     ensures { MatchOption result ((i : ℕ) → i < length basis.now → place basis.now i ≢ column) (λ i. (i < length basis.now) × (place basis.now i ≡ column)) }
 {
     for i in 0..basis.len() {

@@ -6,7 +6,7 @@ ghost use Rattle.bz_num.specs.Row.{IsSparse};
 ghost use Rattle.bz_tableau.specs.Programs.{IsLp};
 ghost use Rattle.bz_tableau.specs.Tables.{IsTableauOf, factor_column};
 
-use crate::answer_at;
+use crate::{answer_at, relax, solve};
 use bz_num::{Items, OutOfMemory, SparseRow};
 use bz_tableau::{Answer, Lp, LpRow, LpStop, Tableau, Vals, WideAt};
 use std::alloc::Global;
@@ -32,6 +32,10 @@ enum Want<'a> {
         column: u32,
         z: (&'a [i128], i128),
         d: &'a [i128],
+    },
+    Empty {
+        basis: &'a [u32],
+        y: &'a [i128],
     },
     Nothing,
     Wide {
@@ -77,6 +81,13 @@ fn is_wanted(found: &Result<Option<Answer>, LpStop>, want: &Want<'_>) -> bool {
                 && is_vals(z, *point)
                 && d.as_slice() == *moves
         },
+        (
+            Ok(Some(Answer::Empty { basis, y })),
+            Want::Empty {
+                basis: places,
+                y: multipliers,
+            },
+        ) => basis.as_slice() == *places && y.as_slice() == *multipliers,
         (Ok(None), Want::Nothing) => true,
         (
             Err(LpStop::Wide(WideAt::Den { basis, place, .. })),
@@ -131,6 +142,14 @@ fn check(
     }
     assert!(rt; is_wanted(&answer_at(alloc, lp, relaxed, &tableau), want));
     Ok(())
+}
+
+// The answers of the program and of its relaxed program.
+fn check_solved(rt: &impl Abort, alloc: Global, lp: &Lp, want: &Want<'_>, relaxed: &Want<'_>)
+    requires { IsLp lp.now }
+{
+    assert!(rt; is_wanted(&solve(alloc, lp).map(Some), want));
+    assert!(rt; is_wanted(&relax(alloc, lp).map(Some), relaxed));
 }
 
 fn row(alloc: Global, terms: &[(u32, i128)], rhs: i128) -> Result<LpRow, OutOfMemory>
@@ -353,5 +372,50 @@ fn wide(rt: HostRuntime) -> Result<(), Fail> {
         place: 0,
     };
     check(&rt, alloc, &lp, false, &pivots, &first)?;
+    Ok(())
+}
+
+#[test]
+fn solved(rt: HostRuntime) -> Result<(), Fail> {
+    let alloc = rt.alloc();
+    // z <= 3
+    let lp = one_row(alloc, &[(0, 1)], 3, &[(0, -1)])?;
+    let least = Want::Least {
+        basis: &[0],
+        z: (&[3], 1),
+        y: (&[1], 1),
+    };
+    let origin = Want::Least {
+        basis: &[2],
+        z: (&[0, 0], 1),
+        y: (&[0], 1),
+    };
+    check_solved(&rt, alloc, &lp, &least, &origin);
+    // z <= -1
+    let lp = one_row(alloc, &[(0, 1)], -1, &[])?;
+    let empty = Want::Empty {
+        basis: &[1],
+        y: &[1],
+    };
+    let apart = Want::Least {
+        basis: &[1],
+        z: (&[0, 1], 1),
+        y: (&[1], 1),
+    };
+    check_solved(&rt, alloc, &lp, &empty, &apart);
+    // no row
+    let lp = no_rows(alloc, &[(0, -1)])?;
+    let ray = Want::Ray {
+        basis: &[],
+        column: 0,
+        z: (&[0], 1),
+        d: &[1],
+    };
+    let nothing = Want::Least {
+        basis: &[],
+        z: (&[0, 0], 1),
+        y: (&[], 1),
+    };
+    check_solved(&rt, alloc, &lp, &ray, &nothing);
     Ok(())
 }

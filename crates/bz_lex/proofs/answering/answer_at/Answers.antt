@@ -1,6 +1,6 @@
 -- Each return is what the tableau's signs say.
 use Rattle.std.proofs.Common.{sym, ◌∙◌, true≢false}
-use Rattle.bz_lex.proofs.Outcomes.{outcome_answer, outcome_narrow, outcome_refused, least_outcome, ray_right, small_least, small_ray, none_without_point, none_without_cost}
+use Rattle.bz_lex.proofs.Outcomes.{outcome_answer, outcome_narrow, outcome_refused, least_outcome, ray_right, small_least, small_ray, none_without_point, none_without_cost, no_signs_without_point, no_signs_without_cost}
 use Rattle.bz_lex.proofs.answering.answer_at.Goals as goal
 
 pub returns-then-not-has_point-clause-answer : goal.returns-then-not-has_point-clause-answer
@@ -53,3 +53,12 @@ returns-in_ok-outcome-in-Some-clause-refused c =
 
 pub returns-in-None-clause-answer : goal.returns-in-None-clause-answer
 returns-in-None-clause-answer c = none_without_cost c.args.relaxed c.args.lp.now c.args.tableau.now c.requires.tableau c.if-has_least_cost.ensures (λ e. c.in-None.ensures)
+
+pub returns-then-not-has_point-clause-signs : goal.returns-then-not-has_point-clause-signs
+returns-then-not-has_point-clause-signs c = no_signs_without_point c.args.relaxed c.args.lp.now c.args.tableau.now c.requires.tableau c.if-not-has_point.ensures
+
+pub returns-then-relaxed-clause-signs : goal.returns-then-relaxed-clause-signs
+returns-then-relaxed-clause-signs c = no_signs_without_cost c.args.relaxed c.args.lp.now c.args.tableau.now c.requires.tableau c.if-has_least_cost.ensures (λ e. absurd (true≢false (sym c.if-relaxed.true ∙ e)))
+
+pub returns-in-None-clause-signs : goal.returns-in-None-clause-signs
+returns-in-None-clause-signs c = no_signs_without_cost c.args.relaxed c.args.lp.now c.args.tableau.now c.requires.tableau c.if-has_least_cost.ensures (λ e. c.in-None.ensures)

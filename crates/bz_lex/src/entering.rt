@@ -1,0 +1,57 @@
+//! The column that enters the basis.
+ghost use Rattle.std.specs.Prelude.{◌≡◌, ◌<◌, suc, MatchOption, length};
+ghost use Rattle.bz_tableau.specs.Tables.{factor_column};
+ghost use Rattle.bz_lex.specs.Phases.{IsChosen, IsChoiceOf, IsGreatestSize};
+ghost use Rattle.bz_lex.specs.Shown.{HasLeastCost};
+
+use bz_tableau::Tableau;
+
+// The greatest size of a number of the column.
+fn greatest_size(tableau: &Tableau, rows: u32, column: u32) -> u128
+    requires rows { rows ≡ length tableau.now.basis }
+    requires column { column < factor_column tableau.now }
+    ensures { IsGreatestSize tableau.now column result }
+{
+    let mut greatest = tableau.entry(rows, column).unsigned_abs();
+    for row in 0..rows {
+        greatest = greatest.max(tableau.entry(row, column).unsigned_abs());
+    }
+    greatest
+}
+
+// The choice of the columns up to this one, with its greatest size. Any column in which the objective row is negative
+// would do; small numbers stay small.
+fn next_choice(
+    tableau: &Tableau,
+    rows: u32,
+    choice: Option<(u32, u128)>,
+    column: u32,
+) -> Option<(u32, u128)>
+    requires rows { rows ≡ length tableau.now.basis }
+    requires column { column < factor_column tableau.now }
+    requires choice { IsChoiceOf column tableau.now choice }
+    ensures { IsChoiceOf (suc column) tableau.now result }
+{
+    if tableau.entry(rows, column) >= 0 {
+        return choice;
+    }
+    let size = greatest_size(tableau, rows, column);
+    match choice {
+        Some((_, least)) if least <= size => choice,
+        _ => Some((column, size)),
+    }
+}
+
+/// The column that enters: of those in which the objective row is negative one whose greatest number is least.
+pub fn entering(tableau: &Tableau, rows: u32, side: u32) -> Option<u32>
+    requires rows { rows ≡ length tableau.now.basis }
+    requires side { side ≡ factor_column tableau.now }
+    ensures { MatchOption result (HasLeastCost tableau.now) (λ column. IsChosen tableau.now column) }
+{
+    let mut choice = None;
+    for column in 0..side {
+        choice = next_choice(tableau, rows, choice, column);
+    }
+    let (column, _) = choice?;
+    Some(column)
+}

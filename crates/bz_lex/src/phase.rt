@@ -1,0 +1,98 @@
+//! One phase of the lexicographic simplex.
+ghost use Rattle.std.specs.Prelude.{◌≡◌, IfOk, IfErr, OnErr, MatchOption, length};
+ghost use Rattle.bz_tableau.specs.Programs.{IsLp};
+ghost use Rattle.bz_tableau.specs.Tables.{factor_column, IsTableauOf};
+ghost use Rattle.bz_lex.specs.Phases.{IsOnPhase, IsPhasePivot, IsPhaseEnd, IsPhaseTable, IsPhaseStop};
+ghost use Rattle.bz_lex.specs.Shown.{HasPoint};
+
+use crate::answering::first_slack;
+use crate::entering::entering;
+use crate::leaving::leaving;
+use bz_tableau::{Lp, LpStop, Tableau};
+use std::alloc::Global;
+use std::marker::Brand;
+use std::sync::ledger::{Blank, Ledger};
+
+/// What a phase comes to.
+#[derive(Drop)]
+pub enum PhaseEnd {
+    /// No number of the objective row is negative.
+    Least,
+    /// The objective row is negative in the column, and no row is positive there.
+    Falls { column: u32 },
+}
+
+// One turn of the phase that began at the basis `first`: its end, or else a pivot.
+fn turn(
+    alloc: Global,
+    tableau: &mut Tableau,
+    first: &[u32],
+    rows: u32,
+    side: u32,
+) -> Result<Option<PhaseEnd>, LpStop>
+    requires phase { IsOnPhase first.now tableau.old }
+    requires rows { rows ≡ length tableau.old.basis }
+    requires side { side ≡ factor_column tableau.old }
+    ensures turned { IfOk result (λ end. MatchOption end (IsPhasePivot first.now tableau.old tableau.new) (λ end. (tableau.new ≡ tableau.old) × IsPhaseEnd tableau.old end)) }
+    ensures stopped { IfErr result (λ stop. IsPhaseStop tableau.old stop) }
+    ensures unchanged { OnErr result (tableau.new ≡ tableau.old) }
+{
+    let Some(column) = entering(tableau, rows, side) else {
+        return Ok(Some(PhaseEnd::Least));
+    };
+    let Some(row) = leaving(tableau, first, rows, side, column) else {
+        return Ok(Some(PhaseEnd::Falls { column }));
+    };
+    tableau.pivot(alloc, row, column)?;
+    Ok(None)
+}
+
+// Turns until the end. No basis comes twice, so the ledger counts to less than 2 to the number of columns.
+fn turns<L: Ledger>(
+    alloc: Global,
+    tableau: &mut Tableau,
+    first: &[u32],
+    rows: u32,
+    side: u32,
+    blank: Blank,
+) -> Result<PhaseEnd, LpStop>
+    requires name { blank.name ≡ L.name }
+    requires parts { blank.parts ≡ L.parts }
+    requires part { L.parts ≡ 1 }
+    requires first { first.now ≡ tableau.old.basis }
+    requires phase { IsOnPhase first.now tableau.old }
+    requires rows { rows ≡ length tableau.old.basis }
+    requires side { side ≡ factor_column tableau.old }
+    ensures table { IsPhaseTable tableau.old tableau.new }
+    ensures end { IfOk result (λ end. IsPhaseEnd tableau.new end) }
+    ensures stopped { IfErr result (λ stop. IsPhaseStop tableau.old stop) }
+{
+    let (mut met, mut share) = blank.open::<L>();
+    loop {
+        if let Some(end) = turn(alloc, tableau, first, rows, side)? {
+            return Ok(end);
+        }
+        met.add(&mut share, 1);
+    }
+}
+
+/// Pivots from a tableau with a point, by the lexicographic rule, until no column enters or the objective row falls
+/// freely in one. It is refused where a pivot is, and by want of memory; the tableau is then the last one met.
+pub fn run_phase(
+    alloc: Global,
+    lp: &Lp,
+    relaxed: bool,
+    tableau: &mut Tableau,
+) -> Result<PhaseEnd, LpStop>
+    requires lp { IsLp lp.now }
+    requires tableau { IsTableauOf relaxed lp.now tableau.old }
+    requires point { HasPoint tableau.old }
+    ensures table { IsPhaseTable tableau.old tableau.new }
+    ensures end { IfOk result (λ end. IsPhaseEnd tableau.new end) }
+    ensures stopped { IfErr result (λ stop. IsPhaseStop tableau.old stop) }
+{
+    let first = Vec::from_slice(alloc, tableau.basis())?;
+    let rows = first.len() as u32;
+    let side = first_slack(lp, relaxed) + rows;
+    turns::<Brand>(alloc, tableau, first.as_slice(), rows, side, Blank::new(1))
+}
