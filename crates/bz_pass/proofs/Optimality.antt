@@ -70,33 +70,38 @@ stated : (maximise : Bool) (d a k s q v ai : ℤ) → ai ≡ (if maximise then n
 stated true d a k s q v ai ea e = same a (neg_ℤ v) k s q d (omega (arith, ints, neg_mul a d, neg_mul v q, e, ap (λ (t : ℤ). t *ℤ d) ea))
 stated false d a k s q v ai ea e = same a v k s q d (ap (λ (t : ℤ). t *ℤ d) (sym ea) ∙ e)
 
-either : (maximise : Bool) (es : List (ℕ × ℤ)) (f : ℕ → ℤ) → dot (if maximise then negated es else es) f ≡ (if maximise then neg_ℤ (dot es f) else dot es f)
+pub either : (maximise : Bool) (es : List (ℕ × ℤ)) (f : ℕ → ℤ) → dot (if maximise then negated es else es) f ≡ (if maximise then neg_ℤ (dot es f) else dot es f)
 either true es f = dot_negated es f
 either false es f = refl
 
 -- ---- the law
+-- A feasible point whose inner cost is at most v / den is optimal where no feasible point's is less, and v / den with the
+-- model's sign, constant and scale is its objective.
+pub least_is_optimal : (m : Model) (den v : ℤ) (p : List ℤ) (q : ℤ) → (pos 0) <ℤ den → IsFeasible m p q → (dot (inner_cost m) (coordinate p) *ℤ den) ≤ℤ (v *ℤ q) → ((p' : List ℤ) (q' : ℤ) → IsFeasible m p' q' → (v *ℤ q') ≤ℤ (dot (inner_cost m) (coordinate p') *ℤ den)) → IsOptimal m p q × IsSameNumber (objective m p q) (record { num = (if m.maximise then neg_ℤ v else v) +ℤ (m.constant *ℤ den); den = m.scale *ℤ den })
+least_is_optimal m den v p q some f most bound = (
+  record {
+    feasible = f;
+    best = λ p' q' f' better. judged m.maximise den (dot m.cost (coordinate p)) (dot m.cost (coordinate p')) m.constant m.scale q q' v
+        (dot (inner_cost m) (coordinate p)) (dot (inner_cost m) (coordinate p'))
+        (either m.maximise m.cost (coordinate p)) (either m.maximise m.cost (coordinate p'))
+        m.scale_positive f.positive f'.positive
+        (record { den = some; reached = reached; bound = bound p' q' f' })
+        better;
+  },
+  stated m.maximise den (dot m.cost (coordinate p)) m.constant m.scale q v (dot (inner_cost m) (coordinate p)) (either m.maximise m.cost (coordinate p)) reached,
+)
+  where
+    reached : dot (inner_cost m) (coordinate p) *ℤ den ≡ v *ℤ q
+    reached = le_antisym _ _ most (bound p q f)
+
 decomposed : (m : Model) (part : List ℕ) (c : Certificate) → IsProved m part c → IsDecomposed m part
 decomposed m part c h = record { columns = h.columns; partition = h.partition; strict = h.strict }
 
 pub passing_optimal : (m : Model) (part : List ℕ) (c : Certificate) (p : List ℤ) (q : ℤ) → IsProved m part c → IsPointOf m part c.parts p q → IsOptimal m p q × IsSameNumber (objective m p q) (stated_objective m c)
-passing_optimal m part c p q h r = (
-  record {
-    feasible = f;
-    best = λ p' q' f' better. judged m.maximise c.parts.master.den (dot m.cost (coordinate p)) (dot m.cost (coordinate p')) m.constant m.scale q q' c.value
-        (dot (inner_cost m) (coordinate p)) (dot (inner_cost m) (coordinate p'))
-        (either m.maximise m.cost (coordinate p)) (either m.maximise m.cost (coordinate p'))
-        m.scale_positive f.positive f'.positive
-        (record { den = h.passes.shape.den; reached = reached; bound = value_at_most m part c p' q' d h.passes f' })
-        better;
-  },
-  stated m.maximise c.parts.master.den (dot m.cost (coordinate p)) m.constant m.scale q c.value (dot (inner_cost m) (coordinate p)) (either m.maximise m.cost (coordinate p)) reached,
-)
+passing_optimal m part c p q h r = least_is_optimal m c.parts.master.den c.value p q h.passes.shape.den
+    (point_is_feasible m part c p q d h.passes r)
+    (point_costs_at_most m part c p q d h.passes r)
+    (λ p' q' f'. value_at_most m part c p' q' d h.passes f')
   where
     d : IsDecomposed m part
     d = decomposed m part c h
-
-    f : IsFeasible m p q
-    f = point_is_feasible m part c p q d h.passes r
-
-    reached : dot (inner_cost m) (coordinate p) *ℤ c.parts.master.den ≡ c.value *ℤ q
-    reached = le_antisym _ _ (point_costs_at_most m part c p q d h.passes r) (value_at_most m part c p q d h.passes f)

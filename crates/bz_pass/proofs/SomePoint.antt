@@ -62,7 +62,7 @@ module _ (m : Model) (part : List ℕ) (parts : Parts) where
   unfolding number
   number-block k i = rw (ne_eqb (1 + k) 0 (λ e. omega arith)) (ap (λ (j : ℕ). raised parts.blocks j i) (omega arith) ∙ sym (one_mul (raised parts.blocks k i)))
 
-  the_point : List ℤ
+  pub the_point : List ℤ
   the_point = list_of (length m.columns) (λ j. number (part_of part j) (position_of part j))
 
   at_position : length part ≡ length m.columns → (b i : ℕ) → i < width_of part b → coordinate the_point (column_at part b i) ≡ number b i
@@ -78,7 +78,7 @@ module _ (m : Model) (part : List ℕ) (parts : Parts) where
   unfolding the_point
   counted = length-list_of (length m.columns) _
 
-  is_point : length part ≡ length m.columns → HasShape m part parts → IsPointOf m part parts the_point (parts.master.den *ℤ all_times parts.blocks)
+  pub is_point : length part ≡ length m.columns → HasShape m part parts → IsPointOf m part parts the_point (parts.master.den *ℤ all_times parts.blocks)
   is_point n s = record {
     positive = mul_positive parts.master.den (all_times parts.blocks) s.den (times_positive 1 parts.blocks (all_then _ _ (enumerate_from 1 parts.blocks) s.each (λ e h. h.0)));
     numbers = counted;

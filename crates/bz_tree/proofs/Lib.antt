@@ -1,0 +1,6 @@
+pub mod Covering
+pub mod EndLists
+pub mod Judging
+pub mod NarrowSides
+pub mod Quotients
+pub mod Rays

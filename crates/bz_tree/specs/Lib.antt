@@ -1,0 +1,4 @@
+pub mod Certificates
+pub mod Ends
+pub mod Laws
+pub mod Trees

@@ -1,0 +1,83 @@
+//! The ends of an integer column: its bounds, rounded inward.
+ghost use Rattle.std.specs.Prelude.{◌≡◌, ◌<◌, pos, ◌+ℤ◌, ◌*ℤ◌, ◌<ℤ◌, IfOk};
+ghost use Rattle.std.specs.Int.RustNames.{unsigned_abs};
+ghost use Rattle.bz_algebra.specs.Numbers.{IsNarrow};
+ghost use Rattle.bz_pass.specs.Boxes.{IsCeiling, IsFloor};
+ghost use Rattle.bz_tree.specs.Ends.{AreEnds, IsLowerEnd, IsUpperEnd, integers_among};
+
+use bz_model::Column;
+use bz_num::Frac;
+use std::alloc::{AllocError, Global};
+
+/// The quotient, rounded toward zero, and the rest.
+fn divide(num: i128, den: i128) -> (i128, i128)
+    requires { pos 0 <ℤ den }
+    ensures whole { ((result.0 *ℤ den) +ℤ result.1) ≡ num }
+    ensures rest { unsigned_abs result.1 < unsigned_abs den }
+{
+    (num / den, num % den)
+}
+
+/// The least whole number that is at least the fraction.
+fn ceiling(bound: Frac) -> i128
+    ensures value { IsCeiling bound result }
+    ensures narrow { IsNarrow result }
+{
+    let (quotient, rest) = divide(bound.num, bound.den);
+    if rest > 0 { quotient + 1 } else { quotient }
+}
+
+/// The greatest whole number that is at most the fraction.
+fn floor(bound: Frac) -> i128
+    ensures value { IsFloor bound result }
+    ensures narrow { IsNarrow result }
+{
+    let (quotient, rest) = divide(bound.num, bound.den);
+    if rest < 0 { quotient - 1 } else { quotient }
+}
+
+/// The lower end of a column, 0 where there is no bound.
+fn lower_end(column: &Column) -> i128
+    ensures { IsLowerEnd column.now result }
+{
+    match column.lower {
+        Some(bound) => ceiling(bound),
+        None => 0,
+    }
+}
+
+/// The upper end of a column, 0 where there is no bound.
+fn upper_end(column: &Column) -> i128
+    ensures { IsUpperEnd column.now result }
+{
+    match column.upper {
+        Some(bound) => floor(bound),
+        None => 0,
+    }
+}
+
+/// The lower end of each integer column, in file order. It takes memory for them.
+pub fn lower_ends(alloc: Global, columns: &[Column]) -> Result<Vec<i128>, AllocError>
+    ensures { IfOk result (λ ends. AreEnds IsLowerEnd (integers_among columns.now) ends.items) }
+{
+    let mut ends = Vec::new(alloc);
+    for column in columns {
+        if column.integer {
+            ends.push(lower_end(column))?;
+        }
+    }
+    Ok(ends)
+}
+
+/// The upper end of each integer column, in file order. It takes memory for them.
+pub fn upper_ends(alloc: Global, columns: &[Column]) -> Result<Vec<i128>, AllocError>
+    ensures { IfOk result (λ ends. AreEnds IsUpperEnd (integers_among columns.now) ends.items) }
+{
+    let mut ends = Vec::new(alloc);
+    for column in columns {
+        if column.integer {
+            ends.push(upper_end(column))?;
+        }
+    }
+    Ok(ends)
+}
