@@ -19,7 +19,7 @@ use Rattle.bz_lex.specs.Stops.{IsPointBasis, IsOnTheWay, IsTrueStop}
 use Rattle.bz_lex.specs.Ways.{IsEntryIn, StandsIn, Stays, IsBrought, IsRefusedWay}
 use Rattle.bz_lex.proofs.ShownBases.{few_rows, has_point}
 use Rattle.bz_lex.proofs.TowardsTables.{slack_places, pivoted_count, pivoted_place, table_exchange, pivoted_within}
-use Rattle.bz_lex.proofs.TruePivots.{MayPivot, way_stop}
+use Rattle.bz_lex.proofs.TruePivots.{MayPivot, true_way_stop}
 
 -- a tableau whose columns are those of a basis without a negative right side has a point
 pub within_point : (relaxed : Bool) (lp : Lp) (t : Table) (goal : List ℕ) → IsTableauOf relaxed lp t → IsPointBasis relaxed (program_of lp) goal → IsWithin (length t.basis) (place t.basis) (place goal) → HasPoint t
@@ -114,7 +114,7 @@ module _ (n : ℕ) (relaxed : Bool) (lp : Lp) (goal : List ℕ) (t : Table) (h :
   }
 
   pub way_refused : (stop : LpStop) → IsRefusedWay t n goal stop → IsTrueStop lp stop
-  way_refused stop w = way_stop relaxed lp t h.tableau n w.column goal stop (may_pivot w.column w.enters) w.refusal
+  way_refused stop w = true_way_stop relaxed lp t h.tableau n w.column goal stop (may_pivot w.column w.enters) w.refusal
 
 -- at the end the columns are those of the goal
 pub way_within : (relaxed : Bool) (lp : Lp) (goal : List ℕ) (t : Table) → IsOnWay (length t.basis) relaxed lp goal t → IsPointBasis relaxed (program_of lp) goal → IsWithin (length t.basis) (place t.basis) (place goal)

@@ -50,9 +50,6 @@ module _ (lp : Lp) (t : Table) (h : IsTableauOf true lp t) (p : HasPoint t) (zer
   s_may_leave e o = record { row_inside = inside; column_inside = o.inside; nonzero = o.nonzero; goal_is = point_basis true lp t h p; kind = inr (inl leaves) }
 
   module _ (e : ℕ) (o : IsOtherEntry t r lp.columns e) (new : Table) (q : IsPivoted t r e new) where
-    pub left_tableau : IsTableauOf true lp new
-    left_tableau = record { relaxed_is = q.relaxed ∙ h.relaxed_is; table = q.tableau (lp_equations true lp) h.table }
-
     pub left_point : HasPoint new
     left_point = zero_right_point (lp_equations true lp) t r e new h.table q p s_right
 
@@ -75,10 +72,6 @@ module _ (lp : Lp) (t : Table) (h : IsTableauOf true lp t) (p : HasPoint t) (awa
 
   goal_basis : IsBasis to (place goal)
   goal_basis = basis_same to (unrelaxed_basis lp.columns (place t.basis)) (place goal) moved_basis same_columns
-
-  -- row i without s
-  moved : ℕ → ℕ → ℤ
-  moved i j = shown t i (relaxed_number lp.columns j)
 
   goal_row : (i : ℕ) → i < length lp.rows → IsRow to (place goal) i (λ j. shown t i (relaxed_number lp.columns j))
   goal_row i b = row_same to (unrelaxed_basis lp.columns (place t.basis)) (place goal) i (λ j. shown t i (relaxed_number lp.columns j)) (λ j. shown t i (relaxed_number lp.columns j)) moved_basis.columns b

@@ -9,22 +9,21 @@ use Rattle.bz_algebra.specs.Tableaus.{Equations, side, Program, IsTableau, equat
 use Rattle.bz_algebra.proofs.Ring.{positive-ne}
 use Rattle.bz_algebra.proofs.Uniqueness.{row_unique}
 use Rattle.bz_tableau.specs.Laws.{place}
-use Rattle.bz_tableau.specs.Pivots.{IsFirstWideRow}
 use Rattle.bz_tableau.specs.Programs.{program_of, lp_equations}
 use Rattle.bz_tableau.specs.Refusals.{IsRefusal}
 use Rattle.bz_tableau.specs.Tables.{Table, IsTableOf, IsTableauOf, own, number, shown, factor_column}
 use Rattle.bz_tableau.specs.declared.answers.LpStop.{LpStop}
-use Rattle.bz_tableau.specs.declared.answers.LpStop.TheVariants.{Wide, OutOfMemory}
-use Rattle.bz_tableau.specs.declared.answers.WideAt.TheVariants.{Build, Pivot, Den, Fold}
+use Rattle.bz_tableau.specs.declared.answers.LpStop.TheVariants.{OutOfMemory}
 use Rattle.bz_tableau.specs.declared.programs.Lp.{Lp}
 use Rattle.bz_lex.specs.Lexicographic.{lead}
 use Rattle.bz_lex.specs.Phases.{IsEntering, IsOnPhase, IsPhasePivot, IsPhaseTable, IsPhaseStop}
 use Rattle.bz_lex.specs.Shown.{HasPoint}
-use Rattle.bz_lex.specs.Stops.{IsPointBasis, IsRowAt, IsWideClearing, EntersAtGoal, IsTruePivot, IsTrueStop, IsTrueRelaxedStop}
+use Rattle.bz_lex.specs.Stops.{IsRowAt, EntersAtGoal}
 use Rattle.bz_lex.specs.TableStages.{shown_order, IsLeavingRow, IsTableStage}
 use Rattle.bz_lex.proofs.LexOrder.{positive_start}
-use Rattle.bz_lex.proofs.ShownBases.{all_rows, basis_list, any_right_side, count_is}
+use Rattle.bz_lex.proofs.ShownBases.{all_rows, count_is}
 use Rattle.bz_lex.proofs.TablesOnTheWay.{shown_side, shown_column, side_is, table_first, table_next, table_point, table_few}
+use Rattle.bz_lex.proofs.TruePivots.{MayPivot, point_basis, true_way_stop, relaxed_way_stop, own_way}
 
 -- ---- on the way
 -- the table now is one on the way from the table old, with so many bases met between them
@@ -66,12 +65,6 @@ module _ (old : Table) (first : List ℕ) (total : ℕ) (now : Table) (u : IsUnd
   pub way_tableau : (relaxed : Bool) (lp : Lp) → IsTableauOf relaxed lp old → IsTableauOf relaxed lp now
   way_tableau relaxed lp h = record { relaxed_is = u.relaxed ∙ h.relaxed_is; table = (u.stages (lp_equations relaxed lp) h.table).2.table }
 
-  pub way_stop : (stop : LpStop) → IsPhaseStop now stop → IsPhaseStop old stop
-  way_stop stop p = record {
-    is_true = λ relaxed lp h. p.is_true relaxed lp (way_tableau relaxed lp h);
-    is_relaxed = λ lp h. p.is_relaxed lp (way_tableau true lp h);
-  }
-
   -- a pivot more
   pub way_next : (new : Table) → IsPhasePivot first now new → IsUnderWay old first (suc total) new
   way_next new p = record {
@@ -107,9 +100,6 @@ module _ (relaxed : Bool) (lp : Lp) (t : Table) (h : IsTableauOf relaxed lp t) (
   row_column : (i j : ℕ) (v : ℕ → ℤ) → j < factor_column t → i ≤ length lp.rows → IsRowAt relaxed program t.basis i v → shown t i j ≡ v j
   row_column i j v l b r = shown_column t i j (λ e. omega (arith, l)) ∙ row_at i v b r j (omega (arith, l, side_is (lp_equations relaxed lp) t h.table))
 
-  point_basis : IsPointBasis relaxed program t.basis
-  point_basis = record { is_basis = basis_list relaxed lp t h; right_sides = λ i v b r. any_right_side relaxed lp t h p i v b r }
-
   module _ (first : List ℕ) (r e : ℕ) (enters : IsEntering t e) (leaves : IsLeavingRow t first e r) where
     leads : (i : ℕ) → i < length t.basis → (pos 0) <ℤ (shown t i e) → (pos 0) ≤ℤ ((shown t r e *ℤ shown t i (factor_column t)) -ℤ (shown t i e *ℤ shown t r (factor_column t)))
     leads i b q = elim (cases_eq i r) [
@@ -138,52 +128,20 @@ module _ (relaxed : Bool) (lp : Lp) (t : Table) (h : IsTableauOf relaxed lp t) (
             (by_leads (shown t r e) (shown t i (factor_column t)) (shown t i e) (shown t r (factor_column t))
             (leads i (omega (arith, b, count)) (subst (λ (z : ℤ). (pos 0) <ℤ z) (sym (row_column i e v enters.inside low x)) q)))
 
-    wide_clearing : (row : ℕ) → IsFirstWideRow t.rows r e row → IsWideClearing relaxed program t.basis row r e
-    wide_clearing row w = record {
-      row_inside = omega (arith, w.inside, h.table.lines, count);
-      pivot_inside = omega (arith, leaves.inside, count);
-      other = w.other;
-      old = number t.rows row;
-      is_old = all.rows row (omega (arith, w.inside, h.table.lines, count));
-      pivot = number t.rows r;
-      is_pivot = all.rows r (omega (arith, leaves.inside, count));
-      nonzero = λ z. positive-ne (shown t r e) leaves.positive (shown_column t r e (λ f. omega (arith, enters.inside)) ∙ z);
-      kept = w.here.kept;
-      taken = w.here.taken;
-      multipliers = w.here.multipliers;
-      at = w.here.column;
-      at_inside = omega (arith, w.here.inside, h.table.widths row w.inside);
-      wide = w.here.wide;
-    }
-
-    true_pivot : (row : ℕ) → IsFirstWideRow t.rows r e row → IsTruePivot relaxed program t.basis t.basis row r e
-    true_pivot row w = record {
-      is_basis = basis_list relaxed lp t h;
-      goal_is = point_basis;
-      column_inside = omega (arith, enters.inside, h.table.slack_is, h.table.count);
-      wide = wide_clearing row w;
+    may_pivot : MayPivot relaxed lp t r e t.basis
+    may_pivot = record {
+      row_inside = leaves.inside;
+      column_inside = enters.inside;
+      nonzero = positive-ne (shown t r e) leaves.positive;
+      goal_is = point_basis relaxed lp t h p;
       kind = inl kind;
     }
-
-    true_stop : (stop : LpStop) → IsRefusal t r e stop → IsTrueStop lp stop
-    true_stop (Wide (Build row)) n = absurd n
-    true_stop (Wide (Pivot named basis goal row pivot_row column)) n = rw (n.relaxed_is, h.relaxed_is, n.basis_is, n.goal_is, n.pivot_row_is, n.column_is) (true_pivot row n.wide)
-    true_stop (Wide (Den named basis at)) n = absurd n
-    true_stop (Wide (Fold named basis column list at)) n = absurd n
-    true_stop OutOfMemory n = tt
-
-relaxed_stop : (lp : Lp) (t : Table) → IsTableauOf true lp t → (r e : ℕ) (stop : LpStop) → IsRefusal t r e stop → IsTrueStop lp stop → IsTrueRelaxedStop lp stop
-relaxed_stop lp t h r e (Wide (Build row)) n s = absurd n
-relaxed_stop lp t h r e (Wide (Pivot named basis goal row pivot_row column)) n s = (s, n.relaxed_is ∙ h.relaxed_is)
-relaxed_stop lp t h r e (Wide (Den named basis at)) n s = absurd n
-relaxed_stop lp t h r e (Wide (Fold named basis column list at)) n s = absurd n
-relaxed_stop lp t h r e OutOfMemory n s = tt
 
 -- a refused pivot of a phase is one that a solution makes
 pub refusal_stop : (first : List ℕ) (t : Table) (r e : ℕ) → IsOnPhase first t → IsEntering t e → IsLeavingRow t first e r → (stop : LpStop) → IsRefusal t r e stop → IsPhaseStop t stop
 refusal_stop first t r e g enters leaves stop n = record {
-  is_true = λ relaxed lp h. true_stop relaxed lp t h point first r e enters leaves stop n;
-  is_relaxed = λ lp h. relaxed_stop lp t h r e stop n (true_stop true lp t h point first r e enters leaves stop n);
+  is_true = λ relaxed lp h. true_way_stop relaxed lp t h r e t.basis stop (may_pivot relaxed lp t h point first r e enters leaves) (own_way t r e stop n);
+  is_relaxed = λ lp h. relaxed_way_stop lp t h r e t.basis stop (may_pivot true lp t h point first r e enters leaves) (own_way t r e stop n);
 }
   where
     point : HasPoint t

@@ -35,7 +35,7 @@ module _ (relaxed : Bool) (lp : Lp) (t : Table) (h : IsTableauOf relaxed lp t) w
   rows : HasRowsOfBasis relaxed lp t
   rows = rows_of_basis relaxed lp t h
 
-  pub wide_clearing : (r e i : ℕ) → r < length t.basis → e < factor_column t → shown t r e ≢ pos 0 → IsFirstWideRow t.rows r e i → IsWideClearing relaxed (program_of lp) t.basis i r e
+  wide_clearing : (r e i : ℕ) → r < length t.basis → e < factor_column t → shown t r e ≢ pos 0 → IsFirstWideRow t.rows r e i → IsWideClearing relaxed (program_of lp) t.basis i r e
   wide_clearing r e i b l n w = record {
     row_inside = omega (arith, w.inside, h.table.lines, rows.count);
     pivot_inside = omega (arith, b, rows.count);
@@ -57,7 +57,7 @@ module _ (relaxed : Bool) (lp : Lp) (t : Table) (h : IsTableauOf relaxed lp t) w
   pub point_basis : HasPoint t → IsPointBasis relaxed (program_of lp) t.basis
   point_basis p = record { is_basis = basis_list relaxed lp t h; right_sides = any_right_side relaxed lp t h p }
 
-  pub true_pivot : (r e i : ℕ) (goal : List ℕ) → MayPivot relaxed lp t r e goal → IsFirstWideRow t.rows r e i → IsTruePivot relaxed (program_of lp) t.basis goal i r e
+  true_pivot : (r e i : ℕ) (goal : List ℕ) → MayPivot relaxed lp t r e goal → IsFirstWideRow t.rows r e i → IsTruePivot relaxed (program_of lp) t.basis goal i r e
   true_pivot r e i goal m w = record {
     is_basis = basis_list relaxed lp t h;
     goal_is = m.goal_is;
@@ -67,10 +67,10 @@ module _ (relaxed : Bool) (lp : Lp) (t : Table) (h : IsTableauOf relaxed lp t) w
   }
 
   -- ---- refusals
-  pub way_stop : (r e : ℕ) (goal : List ℕ) (stop : LpStop) → MayPivot relaxed lp t r e goal → IsWayRefusal t r e goal stop → IsTrueStop lp stop
-  way_stop r e goal OutOfMemory m w = tt
-  way_stop r e goal (Wide (Build row)) m w = absurd w
-  way_stop r e goal (Wide (Pivot named_relaxed basis named row pivot_row column)) m w = subst (λ (at : WideAt). IsTrueWide lp at) same (true_pivot r e row goal m w.wide)
+  pub true_way_stop : (r e : ℕ) (goal : List ℕ) (stop : LpStop) → MayPivot relaxed lp t r e goal → IsWayRefusal t r e goal stop → IsTrueStop lp stop
+  true_way_stop r e goal OutOfMemory m w = tt
+  true_way_stop r e goal (Wide (Build row)) m w = absurd w
+  true_way_stop r e goal (Wide (Pivot named_relaxed basis named row pivot_row column)) m w = subst (λ (at : WideAt). IsTrueWide lp at) same (true_pivot r e row goal m w.wide)
     where
       relaxed_is : named_relaxed ≡ relaxed
       relaxed_is = w.relaxed_is ∙ h.relaxed_is
@@ -80,14 +80,14 @@ module _ (relaxed : Bool) (lp : Lp) (t : Table) (h : IsTableauOf relaxed lp t) w
 
       same : Pivot relaxed t.basis goal row r e ≡ Pivot named_relaxed basis named row pivot_row column
       same = sym back
-  way_stop r e goal (Wide (Den named_relaxed basis at)) m w = absurd w
-  way_stop r e goal (Wide (Fold named_relaxed basis column list at)) m w = absurd w
+  true_way_stop r e goal (Wide (Den named_relaxed basis at)) m w = absurd w
+  true_way_stop r e goal (Wide (Fold named_relaxed basis column list at)) m w = absurd w
 
 -- of a relaxed program
 pub relaxed_way_stop : (lp : Lp) (t : Table) → IsTableauOf true lp t → (r e : ℕ) (goal : List ℕ) (stop : LpStop) → MayPivot true lp t r e goal → IsWayRefusal t r e goal stop → IsTrueRelaxedStop lp stop
 relaxed_way_stop lp t h r e goal OutOfMemory m w = tt
 relaxed_way_stop lp t h r e goal (Wide (Build row)) m w = absurd w
-relaxed_way_stop lp t h r e goal (Wide (Pivot named_relaxed basis named row pivot_row column)) m w = (way_stop true lp t h r e goal (Wide (Pivot named_relaxed basis named row pivot_row column)) m w, w.relaxed_is ∙ h.relaxed_is)
+relaxed_way_stop lp t h r e goal (Wide (Pivot named_relaxed basis named row pivot_row column)) m w = (true_way_stop true lp t h r e goal (Wide (Pivot named_relaxed basis named row pivot_row column)) m w, w.relaxed_is ∙ h.relaxed_is)
 relaxed_way_stop lp t h r e goal (Wide (Den named_relaxed basis at)) m w = absurd w
 relaxed_way_stop lp t h r e goal (Wide (Fold named_relaxed basis column list at)) m w = absurd w
 

@@ -45,8 +45,9 @@ fn answered(
 }
 
 /// The answer of the tableau's basis, where it has one: a point of least cost, or a ray of a program that is not
-/// relaxed. It is refused where the common denominator of the basic columns is wide, or over it a number of the point
-/// or, before its common divisor is taken out, of the ray's direction; and by want of memory.
+/// relaxed. There is none only where the basis lacks the signs of an answer. It is refused where the common denominator
+/// of the basic columns is wide, or over it a number of the point or, before its common divisor is taken out, of the
+/// ray's direction; and by want of memory.
 pub fn answer_at(
     alloc: Global,
     lp: &Lp,

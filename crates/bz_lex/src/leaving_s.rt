@@ -23,8 +23,8 @@ fn is_other_entry(tableau: &Tableau, row: u32, other: u32, j: u32) -> bool
     j != other && tableau.entry(row, j) != 0
 }
 
-// The first column but the other one in which the row has an entry.
-fn first_other_entry(tableau: &Tableau, row: u32, other: u32, side: u32) -> Option<u32>
+// A column but the other one in which the row has an entry.
+fn find_other_entry(tableau: &Tableau, row: u32, other: u32, side: u32) -> Option<u32>
     requires row { row < length tableau.now.basis }
     requires side { side ≡ factor_column tableau.now }
     ensures { MatchOption result (HasNoOtherEntry tableau.now row other) (λ column. IsOtherEntry tableau.now row other column) }
@@ -50,7 +50,7 @@ fn leave_s(alloc: Global, lp: &Lp, tableau: &mut Tableau) -> Result<(), LpStop>
 {
     let side = first_slack(lp, true) + tableau.basis().len() as u32;
     match place_of(tableau.basis(), lp.columns) {
-        Some(row) => match first_other_entry(tableau, row as u32, lp.columns, side) {
+        Some(row) => match find_other_entry(tableau, row as u32, lp.columns, side) {
             Some(column) => tableau.pivot(alloc, row as u32, column),
             None => unreachable!(),
         },

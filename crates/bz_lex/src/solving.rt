@@ -68,7 +68,7 @@ fn finish(alloc: Global, lp: &Lp, mut tableau: Tableau) -> Result<Answer, LpStop
     ensures answers { IfOk result (λ a. Answers lp.now a) }
     ensures refused { IfErr result (λ stop. IsTrueStop lp.now stop) }
 {
-    let _end = run_phase(alloc, lp, false, &mut tableau)?;
+    run_phase(alloc, lp, false, &mut tableau)?;
     match answer_at(alloc, lp, false, &tableau)? {
         Some(answer) => Ok(answer),
         None => unreachable!(),

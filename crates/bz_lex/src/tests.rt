@@ -42,6 +42,13 @@ enum Want<'a> {
         basis: &'a [u32],
         place: u32,
     },
+    WidePivot {
+        basis: &'a [u32],
+        goal: &'a [u32],
+        row: u32,
+        pivot_row: u32,
+        column: u32,
+    },
 }
 
 fn is_vals(vals: &Vals, want: (&[i128], i128)) -> bool {
@@ -96,6 +103,33 @@ fn is_wanted(found: &Result<Option<Answer>, LpStop>, want: &Want<'_>) -> bool {
                 place: at,
             },
         ) => basis.as_slice() == *places && *place == *at,
+        (
+            Err(
+                LpStop::Wide(
+                    WideAt::Pivot {
+                        relaxed: true,
+                        basis,
+                        goal,
+                        row,
+                        pivot_row,
+                        column,
+                    },
+                ),
+            ),
+            Want::WidePivot {
+                basis: places,
+                goal: aim,
+                row: wide_row,
+                pivot_row: by_row,
+                column: enters,
+            },
+        ) => {
+            basis.as_slice() == *places
+                && goal.as_slice() == *aim
+                && *row == *wide_row
+                && *pivot_row == *by_row
+                && *column == *enters
+        },
         _ => false,
     }
 }
@@ -417,5 +451,21 @@ fn solved(rt: HostRuntime) -> Result<(), Fail> {
         y: (&[], 1),
     };
     check_solved(&rt, alloc, &lp, &ray, &nothing);
+    Ok(())
+}
+
+#[test]
+fn refused(rt: HostRuntime) -> Result<(), Fail> {
+    let alloc = rt.alloc();
+    // z <= 2^126 and z <= -2^126: s enters in the second row, and the right side of the first is 2^127
+    let lp = two_rows(alloc, 1, &[(0, 1)], TWO_TO_126, &[(0, 1)], -TWO_TO_126, &[])?;
+    let pivot = Want::WidePivot {
+        basis: &[2, 3],
+        goal: &[2, 1],
+        row: 0,
+        pivot_row: 1,
+        column: 1,
+    };
+    check_solved(&rt, alloc, &lp, &pivot, &pivot);
     Ok(())
 }

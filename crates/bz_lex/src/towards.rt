@@ -1,5 +1,5 @@
 //! Pivots towards a goal: a basis whose tableau is wanted.
-ghost use Rattle.std.specs.Prelude.{◌≡◌, ◌≢◌, ◌<◌, ℕ, pos, false, IfOk, IfErr, MatchOption, length};
+ghost use Rattle.std.specs.Prelude.{◌≡◌, ◌≢◌, ◌<◌, ℕ, pos, false, IfOk, IfErr, OnErr, MatchOption, length};
 ghost use Rattle.bz_algebra.specs.Tableaus.{IsWithin};
 ghost use Rattle.bz_tableau.specs.Laws.{place};
 ghost use Rattle.bz_tableau.specs.Pivots.{IsPivoted};
@@ -14,7 +14,8 @@ use bz_num::Items;
 use bz_tableau::{Lp, LpStop, Tableau, WideAt};
 use std::alloc::Global;
 
-/// The pivot, whose refusal names the goal in place of the tableau's own basis.
+/// The pivot, whose refusal names the goal in place of the tableau's own basis. Where it is refused, the tableau is as
+/// before.
 pub fn pivot_towards(
     alloc: Global,
     tableau: &mut Tableau,
@@ -27,6 +28,7 @@ pub fn pivot_towards(
     requires nonzero { shown tableau.old row column ≢ pos 0 }
     ensures pivoted { IfOk result (λ _. IsPivoted tableau.old row column tableau.new) }
     ensures refused { IfErr result (λ stop. IsWayRefusal tableau.old row column goal.now stop) }
+    ensures unchanged { OnErr result (tableau.new ≡ tableau.old) }
 {
     match tableau.pivot(alloc, row, column) {
         Err(
@@ -55,8 +57,8 @@ pub fn pivot_towards(
     }
 }
 
-// The first column of the goal in which the row has an entry.
-fn first_entry_in(tableau: &Tableau, row: u32, goal: &[u32]) -> Option<u32>
+// A column of the goal in which the row has an entry.
+fn find_entry_in(tableau: &Tableau, row: u32, goal: &[u32]) -> Option<u32>
     requires row { row < length tableau.now.basis }
     requires goal { (k : ℕ) → k < length goal.now → place goal.now k < factor_column tableau.now }
     ensures { MatchOption result (HasNoEntryIn tableau.now row goal.now) (λ column. IsEntryIn tableau.now row goal.now column) }
@@ -77,7 +79,7 @@ fn column_towards(tableau: &Tableau, row: u32, goal: &[u32]) -> Option<u32>
 {
     match place_of(goal, tableau.basis()[row as usize]) {
         Some(_) => None,
-        None => first_entry_in(tableau, row, goal),
+        None => find_entry_in(tableau, row, goal),
     }
 }
 

@@ -13,13 +13,15 @@ use Rattle.bz_model.specs.declared.Column.{Column}
 use Rattle.bz_model.specs.declared.Model.{Model}
 use Rattle.bz_model.specs.declared.Parts.{Parts}
 use Rattle.bz_model.specs.declared.Row.{Row}
+use Rattle.bz_model.specs.Parting.{blocks_of, integers_of}
 use Rattle.bz_model.specs.Points.{coordinate, objective, IsBetter, IsFeasible, IsUnbounded, IsWhole, RowHolds, ColumnHolds}
 use Rattle.bz_model.specs.Strict.{HasItsColumns}
-use Rattle.bz_model.proofs.MeetingParts.{all_both, numbers_within}
+use Rattle.bz_model.proofs.MeetingParts.{all_both, all_then, numbers_within}
+use Rattle.bz_pass.specs.Certificates.{IntegerHolds}
 use Rattle.bz_pass.specs.Laws.{IsDecomposed}
 use Rattle.bz_pass.proofs.Numbered.{list_of, length-list_of, coordinate-list_of}
 use Rattle.bz_pass.proofs.Optimality.{either}
-use Rattle.bz_pass.proofs.PointsOfParts.{parts_are_feasible}
+use Rattle.bz_pass.proofs.PointsOfParts.{AreFeasible, parts_are_feasible}
 use Rattle.bz_tree.specs.Certificates.{PassesUnbounded, IsFallingRay, RowAllows, ColumnAllows}
 use Rattle.bz_tree.proofs.Judging.{some_point}
 
@@ -144,18 +146,25 @@ module _ (m : Model) (p ray : List ℤ) (q n : ℤ) (c : HasItsColumns m) (f : I
   better_point : (p' : List ℤ) × (q' : ℤ) × IsFeasible m p' q' × IsBetter m (objective m p' q') (whole n)
   better_point = (along m p ray far, q, along_feasible m p ray far q far_forward c f r, far_better)
 
+-- the same point with etas that are 0
+abbrev without_etas : List ℕ → Parts → Parts
+without_etas part parts = record {
+  master = record { den = parts.master.den; x = parts.master.x; eta = list_of (blocks_of part) (λ b. pos 0) };
+  blocks = parts.blocks;
+}
+
+without_etas_feasible : (m : Model) (part : List ℕ) (parts : Parts) (ray : List ℤ) → PassesUnbounded m part parts ray → AreFeasible m part (without_etas part parts)
+without_etas_feasible m part parts ray s = record {
+  shape = record { den = s.shape.den; x = s.shape.x; eta = length-list_of (blocks_of part) _; blocks = s.shape.blocks; each = s.shape.each };
+  master = s.master;
+  root = s.root;
+  is_root = s.is_root;
+  integers = all_then (IntegerHolds part s.root parts.master) _ (enumerate_from 0 (integers_of m)) s.integers (λ e h. record { whole = h.whole; at_least = h.at_least; at_most = h.at_most });
+  rows = s.blocks;
+}
+
 pub ray_unbounded : (m : Model) (part : List ℕ) (parts : Parts) (ray : List ℤ) → IsDecomposed m part → PassesUnbounded m part parts ray → IsUnbounded m
 ray_unbounded m part parts ray d s n =
-    let at = some_point m part parts d s.shape in
-    better_point m at.0 ray at.1 n d.columns
-    (parts_are_feasible m part parts at.0 at.1 d
-    (record {
-      shape = s.shape;
-      master = s.master;
-      root = s.root;
-      is_root = s.is_root;
-      integers = s.integers;
-      rows = s.blocks;
-    })
-    at.2)
-    s.falls
+    let kept = without_etas_feasible m part parts ray s in
+    let at = some_point m part (without_etas part parts) d kept.shape in
+    better_point m at.0 ray at.1 n d.columns (parts_are_feasible m part (without_etas part parts) at.0 at.1 d kept at.2) s.falls

@@ -9,7 +9,7 @@ use Rattle.bz_model.specs.declared.Column.{Column}
 use Rattle.bz_model.specs.declared.Model.{Model}
 use Rattle.bz_model.specs.declared.Parts.{Parts}
 use Rattle.bz_model.specs.declared.Row.{Row}
-use Rattle.bz_model.specs.Parting.{terms_in, inequalities_of, integers_of, inner_cost}
+use Rattle.bz_model.specs.Parting.{blocks_of, width_of, terms_in, inequalities_of, integers_of, inner_cost}
 use Rattle.bz_model.specs.Points.{coordinate}
 use Rattle.bz_pass.specs.declared.Cut.{Cut}
 use Rattle.bz_pass.specs.Boxes.{Box, IsRootBox}
@@ -73,10 +73,19 @@ pub record IsFallingRay (m : Model) (ray : List ℤ) : Type 0 where
   pub columns : AllByRecursion (λ e. ColumnAllows e.1 (coordinate ray e.0)) (enumerate_from 0 m.columns)
   pub cost : dot (inner_cost m) (coordinate ray) <ℤ pos 0
 
+-- the lists of the parts' point fit the model's parts, and the denominators are positive; nothing is said of the etas
+pub record HasPointShape (m : Model) (part : List ℕ) (parts : Parts) : Type 0 where
+  pub den : pos 0 <ℤ parts.master.den
+  pub x : length parts.master.x ≡ width_of part 0
+  pub blocks : length parts.blocks ≡ blocks_of part
+  pub each : AllByRecursion
+      (λ e. (pos 0 <ℤ e.1.times) × (length e.1.y ≡ width_of part e.0))
+      (enumerate_from 1 parts.blocks)
+
 -- The parts and the ray show that the model is unbounded: the parts are a feasible point, whatever their etas are, and the
 -- inner cost falls along the ray without end.
 pub record PassesUnbounded (m : Model) (part : List ℕ) (parts : Parts) (ray : List ℤ) : Type 0 where
-  pub shape : HasShape m part parts
+  pub shape : HasPointShape m part parts
   pub master : AllByRecursion (HoldsInMaster parts.master) (inequalities_of m part 0)
   pub root : Box
   pub is_root : IsRootBox m root

@@ -1,5 +1,5 @@
 -- What passing certificates of the three verdicts prove.
-use Rattle.std.specs.Prelude.{ℕ, ℤ, pos, ◌*ℤ◌, ◌<ℤ◌, ◌≤ℤ◌, List}
+use Rattle.std.specs.Prelude.{ℕ, ℤ, pos, ◌≡◌, ◌*ℤ◌, ◌<ℤ◌, ◌≤ℤ◌, List}
 use Rattle.std.specs.List.{AllByRecursion}
 use Rattle.bz_algebra.specs.Fractions.{IsSameNumber}
 use Rattle.bz_algebra.specs.Sums.{dot}
@@ -15,7 +15,7 @@ use Rattle.bz_pass.specs.Cuts.{IsValid}
 use Rattle.bz_pass.specs.Laws.{IsDecomposed}
 use Rattle.bz_tree.specs.declared.records.TreeNode.{TreeNode}
 use Rattle.bz_tree.specs.Certificates.{PassesInfeasible, PassesWithTree, PassesUnbounded, objective_of}
-use Rattle.bz_tree.specs.Trees.{Tree, HasLeaf, HasSplits, HoldsOver, EachLeaf, Reaches}
+use Rattle.bz_tree.specs.Trees.{Tree, HasLeaf, HasSplits, HoldsOver, EachLeaf, IsTreeOf, Reaches}
 
 -- Each feasible point in a box lies in the box of some leaf of each tree over it.
 abbrev pub LeavesCoverBoxes : Type 0
@@ -23,6 +23,10 @@ LeavesCoverBoxes =
     (m : Model) (part : List ℕ) (box : Box) (tree : Tree) (p : List ℤ) (q : ℤ) →
     HasSplits m part tree → IsFeasible m p q → LiesIn m box p q →
     (own : Box) × (leaf : Leaf) × HasLeaf m part box tree own leaf × LiesIn m own p q
+
+-- A list of nodes is that of at most one tree.
+abbrev pub NodesAreOfOneTree : Type 0
+NodesAreOfOneTree = (nodes : List TreeNode) (s t : Tree) → IsTreeOf nodes s → IsTreeOf nodes t → s ≡ t
 
 -- Where a tree holds over the box of the whole model, with valid cuts, and each of its leaves is empty or has a bound that
 -- is no less than value / den, no feasible point has an inner cost below value / den.

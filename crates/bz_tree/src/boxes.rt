@@ -35,7 +35,12 @@ fn copied(alloc: Global, numbers: &[i128]) -> Result<Items<i128>, AllocError>
 }
 
 /// The numbers with another one at the place. It takes memory for them.
-fn replaced(alloc: Global, numbers: &[i128], place: u32, number: i128) -> Result<Items<i128>, AllocError>
+fn replaced(
+    alloc: Global,
+    numbers: &[i128],
+    place: u32,
+    number: i128,
+) -> Result<Items<i128>, AllocError>
     requires { place < length numbers.now }
     ensures { IfOk result (λ copy. copy ≡ set numbers.now place number) }
 {
@@ -54,7 +59,12 @@ fn next_below(value: i128, end: i128) -> i128
 
 /// The two sides of a box at a whole number between the ends of an integer column, by its place among the integer
 /// columns: the points where the column is at most `value`, and those where it is at least `value + 1`. It takes memory.
-pub fn split_box(alloc: Global, b: &NodeBox, place: u32, value: i128) -> Result<(NodeBox, NodeBox), OutOfMemory>
+pub fn split_box(
+    alloc: Global,
+    b: &NodeBox,
+    place: u32,
+    value: i128,
+) -> Result<(NodeBox, NodeBox), OutOfMemory>
     requires lower { place < length b.now.lower }
     requires upper { place < length b.now.upper }
     requires at_least { coordinate b.now.lower place ≤ℤ value }

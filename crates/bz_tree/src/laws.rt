@@ -1,5 +1,10 @@
 //! What is proved of passing certificates of the three verdicts.
-ghost use Rattle.bz_tree.specs.Laws.{LeavesCoverBoxes, PartsHaveAPoint, PassingIsInfeasible, PassingIsUnbounded, PassingWithTreeIsOptimal, TreesBoundCosts};
+ghost use Rattle.bz_tree.specs.Laws.{LeavesCoverBoxes, NodesAreOfOneTree, PartsHaveAPoint, PassingIsInfeasible, PassingIsUnbounded, PassingWithTreeIsOptimal, TreesBoundCosts};
+
+/// A list of nodes is that of at most one tree.
+pub fn nodes_are_of_one_tree()
+    ensures { NodesAreOfOneTree }
+{}
 
 /// Each feasible point in a box lies in the box of some leaf of each tree over it.
 pub fn leaves_cover_boxes()

@@ -10,7 +10,10 @@ mod records;
 mod rounding;
 
 pub use boxes::{root_box, split_box};
-pub use laws::{parts_have_a_point, passing_is_infeasible, passing_is_unbounded, passing_with_tree_is_optimal};
+pub use laws::{
+    leaves_cover_boxes, nodes_are_of_one_tree, parts_have_a_point, passing_is_infeasible,
+    passing_is_unbounded, passing_with_tree_is_optimal, trees_bound_costs,
+};
 pub use records::{NodeBox, TreeNode};
 
 #[cfg(test)]

@@ -3,7 +3,7 @@
 ghost use Rattle.std.specs.Prelude.{◌≡◌, ◌∷◌, [], IfOk, pos};
 ghost use Rattle.bz_model.specs.Worked.{AreWorkedColumns, AreWorkedRows};
 
-use crate::{root_box, split_box, NodeBox};
+use crate::{NodeBox, root_box, split_box};
 use bz_model::{Column, Model, Row, Split};
 use bz_num::{Frac, Items, Name, OutOfMemory, SparseRow};
 use std::alloc::Global;
@@ -76,16 +76,26 @@ fn has_ends(b: &NodeBox, lower: i128, upper: i128) -> bool {
 }
 
 /// The two sides of a box of one integer column, where the value is between its ends.
-fn sides(alloc: Global, b: &NodeBox, value: i128) -> Result<Option<(NodeBox, NodeBox)>, OutOfMemory> {
+fn sides(
+    alloc: Global,
+    b: &NodeBox,
+    value: i128,
+) -> Result<Option<(NodeBox, NodeBox)>, OutOfMemory> {
     match (b.lower.as_slice().first(), b.upper.as_slice().first()) {
-        (Some(lower), Some(upper)) if *lower <= value && value < *upper => Ok(Some(split_box(alloc, b, 0, value)?)),
+        (Some(lower), Some(upper)) if *lower <= value && value < *upper => Ok(Some(split_box(
+            alloc, b, 0, value,
+        )?)),
         _ => Ok(None),
     }
 }
 
 #[test]
 fn fractional_bounds_are_rounded_inward(rt: HostRuntime) -> Result<(), Fail> {
-    let split = split(rt.alloc(), Frac { num: -7, den: 2 }, Frac { num: 7, den: 3 })?;
+    let split = split(
+        rt.alloc(),
+        Frac { num: -7, den: 2 },
+        Frac { num: 7, den: 3 },
+    )?;
     let root = root_box(rt.alloc(), &split)?;
     assert!(rt; has_ends(&root, -3, 2));
     match sides(rt.alloc(), &root, -1)? {
@@ -100,7 +110,11 @@ fn fractional_bounds_are_rounded_inward(rt: HostRuntime) -> Result<(), Fail> {
 
 #[test]
 fn whole_bounds_stand(rt: HostRuntime) -> Result<(), Fail> {
-    let split = split(rt.alloc(), Frac { num: -6, den: 2 }, Frac { num: 9, den: 3 })?;
+    let split = split(
+        rt.alloc(),
+        Frac { num: -6, den: 2 },
+        Frac { num: 9, den: 3 },
+    )?;
     let root = root_box(rt.alloc(), &split)?;
     assert!(rt; has_ends(&root, -3, 3));
     Ok(())

@@ -6,12 +6,12 @@ use Rattle.bz_lex.proofs.EndsOfPhases.{phase_tableau, end_signs}
 use Rattle.bz_lex.proofs.Results.{if_err_and}
 use Rattle.bz_lex.proofs.solving.finish.Goals as goal
 
-pub returns-in_err-_end-clause-refused : goal.returns-in_err-_end-clause-refused
-returns-in_err-_end-clause-refused c = if_err_and {P = λ stop. stop ≡ c.in_err-_end.field-0.0} {Q = λ stop. IsTrueStop c.args.lp.now stop} c.from_residual.result c.from_residual.ensures.1
-    (λ stop same. subst (λ (x : LpStop). IsTrueStop c.args.lp.now x) (sym same) (c.in_err-_end.ensures.stopped.is_true false c.args.lp.now c.requires.tableau))
+pub returns-in_err-run_phase-clause-refused : goal.returns-in_err-run_phase-clause-refused
+returns-in_err-run_phase-clause-refused c = if_err_and {P = λ stop. stop ≡ c.in_err-run_phase.field-0.0} {Q = λ stop. IsTrueStop c.args.lp.now stop} c.from_residual.result c.from_residual.ensures.1
+    (λ stop same. subst (λ (x : LpStop). IsTrueStop c.args.lp.now x) (sym same) (c.in_err-run_phase.ensures.stopped.is_true false c.args.lp.now c.requires.tableau))
 
 pub unreachable-requires : goal.unreachable-requires
 unreachable-requires c =
     let tableau = phase_tableau false c.args.lp.now c.args.tableau c.run_phase.new.tableau c.requires.tableau c.run_phase.ensures.table in
     let lacks = rw c.in-None.is at c.in_ok-answer.ensures.signs in
-    lacks (end_signs c.args.lp.now c.run_phase.new.tableau tableau c.run_phase.ensures.table.point c.in_ok-_end._end c.in_ok-_end.ensures.end)
+    lacks (end_signs c.args.lp.now c.run_phase.new.tableau tableau c.run_phase.ensures.table.point c.in_ok-run_phase.field-0 c.in_ok-run_phase.ensures.end)
