@@ -1,0 +1,5 @@
+pub mod FirstItems
+pub mod PartSizes
+pub mod TwoBlocks
+pub mod TheFaults
+pub mod ThreeColumns
