@@ -1,11 +1,10 @@
 pub mod AnswersOfSigns
+pub mod BasesUnrelaxed
 pub mod BasicValues
 pub mod BuiltRows
 pub mod EndsOfPhases
-pub mod EnteringS
 pub mod GoalWays
 pub mod LeastMultiples
-pub mod LeavingS
 pub mod LexBases
 pub mod LexLeaving
 pub mod LexOrder
@@ -19,6 +18,8 @@ pub mod PhaseTurns
 pub mod PointSigns
 pub mod PointsExist
 pub mod RaySigns
+pub mod RelaxedEntering
+pub mod RelaxedLeaving
 pub mod RelaxedStarts
 pub mod RelaxedTables
 pub mod Results
@@ -30,5 +31,4 @@ pub mod StaysTableau
 pub mod TablesOnTheWay
 pub mod TowardsTables
 pub mod TruePivots
-pub mod Unrelaxing
 pub mod Wholes

@@ -73,6 +73,7 @@ choice_same t m (Some b) c h = record {
   entering = c.entering;
   size_is = c.size_is;
   least = λ j other l e. below_suc m (λ k. IsEntering t k → IsGreatestSize t k other → b.1 ≤ other) (λ k d. c.least k other d) (λ f. absurd (omega (arith, ints, f.falls))) j l e;
+  first = c.first;
 }
 
 -- where its greatest size is no less
@@ -82,6 +83,7 @@ choice_kept t m column least size c g l = record {
   size_is = c.size_is;
   least = λ j other b e. below_suc m (λ k. IsEntering t k → IsGreatestSize t k other → least ≤ other) (λ k d. c.least k other d)
       (λ f h. omega (arith, greatest_same t m (λ i. i ≤ length t.basis) size other g h, l)) j b e;
+  first = c.first;
 }
 
 -- where it is less, or no column came before
@@ -89,11 +91,12 @@ pub choice_new : (t : Table) (m size : ℕ) (choice : Option (ℕ × ℕ)) → m
 choice_new t m size choice b c h g l = record {
   entering = record { inside = b; falls = h };
   size_is = g;
-  least = λ j other d e. below_suc m (λ k. IsEntering t k → IsGreatestSize t k other → size ≤ other) (before choice c l other)
+  least = λ j other d e. below_suc m (λ k. IsEntering t k → IsGreatestSize t k other → size ≤ other) (λ k d f q. omega (arith, before choice c l other k d f q))
       (λ f k. omega (arith, greatest_same t m (λ i. i ≤ length t.basis) size other g k)) j d e;
+  first = λ j other d e q. before choice c l other j d e q;
 }
   where
-    before : (o : Option (ℕ × ℕ)) → IsChoiceOf m t o → ((p : ℕ × ℕ) → o ≡ Some p → size < p.1) → (other k : ℕ) → k < m → IsEntering t k → IsGreatestSize t k other → size ≤ other
+    before : (o : Option (ℕ × ℕ)) → IsChoiceOf m t o → ((p : ℕ × ℕ) → o ≡ Some p → size < p.1) → (other k : ℕ) → k < m → IsEntering t k → IsGreatestSize t k other → size < other
     before None n f other k d e q = absurd (n k d e)
     before (Some p) n f other k d e q = omega (arith, f p refl, n.least k other d e q)
 
@@ -105,6 +108,7 @@ pub chosen_all : (t : Table) (column size : ℕ) → IsChosenOf (factor_column t
 chosen_all t column size c = record {
   entering = c.entering;
   least = λ own j other g e h. omega (arith, greatest_same t column (λ i. i ≤ length t.basis) own size g c.size_is, c.least j other e.inside e h);
+  first = λ own j other g e h b. omega (arith, greatest_same t column (λ i. i ≤ length t.basis) own size g c.size_is, c.first j other b e h);
 }
 
 pub none_chosen : (t : Table) → ((j : ℕ) → j < factor_column t → IsEntering t j → ⊥) → HasLeastCost t

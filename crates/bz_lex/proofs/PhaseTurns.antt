@@ -1,28 +1,28 @@
 -- The turns of a phase: that each goes on, that no basis comes twice, and that a refused pivot is one that a solution makes.
-use Rattle.std.specs.Prelude.{ℕ, suc, ◌+◌, ◌-◌, ◌^◌, ◌<◌, ◌≤◌, ◌≡◌, ℤ, pos, ◌-ℤ◌, ◌*ℤ◌, ◌≤ℤ◌, ◌<ℤ◌, Bool, true, List, [], ◌∷◌, length, Result, Ok, Err, IsErrAnd, IfErr}
+use Rattle.std.specs.Prelude.{ℕ, suc, ◌+◌, ◌-◌, ◌^◌, ◌<◌, ◌≤◌, ◌≡◌, ℤ, pos, ◌-ℤ◌, ◌*ℤ◌, ◌≤ℤ◌, ◌<ℤ◌, Bool, true, List, [], ◌∷◌, length, map, Result, Ok, Err, IsErrAnd, IfErr}
 use Rattle.std.proofs.Common.{refl, ap, sym, subst, ◌∙◌, arith, inl, inr}
 use Rattle.std.proofs.Math.IntN.{*ℤ_comm}
 use Rattle.std.proofs.lemmas.Bool.{cases_eq}
 use Rattle.std.proofs.lemmas.Int.{ints}
-use Rattle.std.proofs.lemmas.List.{length-set}
-use Rattle.bz_algebra.specs.Tableaus.{Equations, side, Program, IsTableau, equations_of, with_factor}
+use Rattle.std.proofs.lemmas.List.{length-map, length-set}
+use Rattle.bz_algebra.specs.Tableaus.{Equations, side, Program, IsTableau, NoTwoAlike, equations_of, with_factor}
 use Rattle.bz_algebra.proofs.Ring.{positive-ne}
 use Rattle.bz_algebra.proofs.Uniqueness.{row_unique}
 use Rattle.bz_tableau.specs.Laws.{place}
 use Rattle.bz_tableau.specs.Programs.{program_of, lp_equations}
 use Rattle.bz_tableau.specs.Refusals.{IsRefusal}
-use Rattle.bz_tableau.specs.Tables.{Table, IsTableOf, IsTableauOf, own, number, shown, factor_column}
+use Rattle.bz_tableau.specs.Tables.{Table, IsTableOf, IsTableauOf, number, shown, factor_column}
 use Rattle.bz_tableau.specs.declared.answers.LpStop.{LpStop}
 use Rattle.bz_tableau.specs.declared.answers.LpStop.TheVariants.{OutOfMemory}
 use Rattle.bz_tableau.specs.declared.programs.Lp.{Lp}
 use Rattle.bz_lex.specs.Lexicographic.{lead}
-use Rattle.bz_lex.specs.Phases.{IsEntering, IsOnPhase, IsPhasePivot, IsPhaseTable, IsPhaseStop}
+use Rattle.bz_lex.specs.Phases.{columns_of, IsEntering, IsOnPhase, IsPhasePivot, IsPhaseWay, IsPhaseTable, IsPhaseStop, MeetsNoBasisTwice}
 use Rattle.bz_lex.specs.Shown.{HasPoint}
 use Rattle.bz_lex.specs.Stops.{IsRowAt, EntersAtGoal}
 use Rattle.bz_lex.specs.TableStages.{shown_order, IsLeavingRow, IsTableStage}
 use Rattle.bz_lex.proofs.LexOrder.{positive_start}
 use Rattle.bz_lex.proofs.ShownBases.{all_rows, count_is}
-use Rattle.bz_lex.proofs.TablesOnTheWay.{shown_side, shown_column, side_is, table_first, table_next, table_point, table_few}
+use Rattle.bz_lex.proofs.TablesOnTheWay.{shown_side, shown_column, side_is, table_first, table_next, table_point, table_few, table_different}
 use Rattle.bz_lex.proofs.TruePivots.{MayPivot, point_basis, true_way_stop, relaxed_way_stop, own_way}
 
 -- ---- on the way
@@ -31,31 +31,45 @@ pub record IsUnderWay (old : Table) (first : List ℕ) (total : ℕ) (now : Tabl
   pub relaxed : now.relaxed ≡ old.relaxed
   pub slack : now.slack ≡ old.slack
   pub count : length now.basis ≡ length old.basis
-  pub stages : (s : Equations) → IsTableOf s old.slack old.basis old.rows → (met : List (ℕ → ℕ)) × (length met ≡ total) × IsTableStage s first now met
+  pub left : List Table
+  pub many : length left ≡ total
+  pub way : IsPhaseWay first old now left
+  pub stages : (s : Equations) → IsTableOf s old.slack old.basis old.rows → IsTableStage s first now (map columns_of left)
 
 pub way_first : (old : Table) (first : List ℕ) → first ≡ old.basis → IsOnPhase first old → IsUnderWay old first 0 old
 way_first old first e g = record {
   relaxed = refl;
   slack = refl;
   count = refl;
-  stages = λ s h. ([], refl, subst (λ (basis : List ℕ). IsTableStage s basis old []) (sym e) (table_first s old h (table_point g.system first old g.met g.stage)));
+  left = [];
+  many = refl;
+  way = refl;
+  stages = λ s h. subst (λ (basis : List ℕ). IsTableStage s basis old []) (sym e) (table_first s old h (table_point g.system first old g.met g.stage));
 }
 
 module _ (old : Table) (first : List ℕ) (total : ℕ) (now : Table) (u : IsUnderWay old first total now) where
   module _ (g : IsOnPhase first old) where
     pub way_on_phase : IsOnPhase first now
-    way_on_phase = let f = u.stages g.system g.stage.table in record { system = g.system; met = f.0; stage = f.2 }
+    way_on_phase = record { system = g.system; met = map columns_of u.left; stage = u.stages g.system g.stage.table }
 
     pub way_few : suc total ≤ 2 ^ factor_column now
-    way_few = let f = u.stages g.system g.stage.table in subst (λ (n : ℕ). suc n ≤ 2 ^ factor_column now) f.1 (table_few g.system first now f.0 f.2)
+    way_few = subst (λ (n : ℕ). suc n ≤ 2 ^ factor_column now) (length-map u.left columns_of ∙ u.many) (table_few g.system first now (map columns_of u.left) (u.stages g.system g.stage.table))
+
+    -- no basis was met twice
+    pub way_once : first ≡ old.basis → MeetsNoBasisTwice old now
+    way_once e = record {
+      left = u.left;
+      way = subst (λ (basis : List ℕ). IsPhaseWay basis old now u.left) e u.way;
+      different = subst (λ (n : ℕ). NoTwoAlike n (map columns_of (now ∷ u.left))) u.count (table_different g.system first now (map columns_of u.left) (u.stages g.system g.stage.table));
+    }
 
     pub way_table : IsPhaseTable old now
     way_table = record {
       relaxed = u.relaxed;
       slack = u.slack;
       count = u.count;
-      table = λ s h. (u.stages s h).2.table;
-      point = let f = u.stages g.system g.stage.table in table_point g.system first now f.0 f.2;
+      table = λ s h. (u.stages s h).table;
+      point = table_point g.system first now (map columns_of u.left) (u.stages g.system g.stage.table);
     }
 
   pub way_side : factor_column now ≡ factor_column old
@@ -63,7 +77,7 @@ module _ (old : Table) (first : List ℕ) (total : ℕ) (now : Table) (u : IsUnd
 
   -- a tableau of a program stays one
   pub way_tableau : (relaxed : Bool) (lp : Lp) → IsTableauOf relaxed lp old → IsTableauOf relaxed lp now
-  way_tableau relaxed lp h = record { relaxed_is = u.relaxed ∙ h.relaxed_is; table = (u.stages (lp_equations relaxed lp) h.table).2.table }
+  way_tableau relaxed lp h = record { relaxed_is = u.relaxed ∙ h.relaxed_is; table = (u.stages (lp_equations relaxed lp) h.table).table }
 
   -- a pivot more
   pub way_next : (new : Table) → IsPhasePivot first now new → IsUnderWay old first (suc total) new
@@ -71,8 +85,10 @@ module _ (old : Table) (first : List ℕ) (total : ℕ) (now : Table) (u : IsUnd
     relaxed = p.pivoted.relaxed ∙ u.relaxed;
     slack = p.pivoted.slack ∙ u.slack;
     count = ap length p.pivoted.basis ∙ length-set now.basis p.row p.column ∙ u.count;
-    stages = λ s h. let f = u.stages s h in
-        (own now.slack now.basis ∷ f.0, ap suc f.1, table_next s first now f.0 f.2 p.row p.column new p.pivoted (λ e. omega (arith, p.entering.inside)) p.leaving p.entering.falls);
+    left = now ∷ u.left;
+    many = ap suc u.many;
+    way = (u.way, p);
+    stages = λ s h. table_next s first now (map columns_of u.left) (u.stages s h) p.row p.column new p.pivoted (λ e. omega (arith, p.entering.inside)) p.leaving p.entering.falls;
   }
 
 -- the count of what is left goes down
@@ -150,6 +166,10 @@ refusal_stop first t r e g enters leaves stop n = record {
 -- want of memory needs no reason
 pub memory_stop : (t : Table) → IsPhaseStop t OutOfMemory
 memory_stop t = record { is_true = λ relaxed lp h. tt; is_relaxed = λ lp h. tt }
+
+-- a table that stays is no basis twice
+pub once_first : (t : Table) → MeetsNoBasisTwice t t
+once_first t = record { left = []; way = refl; different = (tt, tt) }
 
 -- where a phase begins
 pub on_phase_first : (relaxed : Bool) (lp : Lp) (t : Table) → IsTableauOf relaxed lp t → HasPoint t → IsOnPhase t.basis t

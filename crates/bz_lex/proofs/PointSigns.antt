@@ -1,16 +1,13 @@
 -- The signs of a basis: what its rows and its objective row say of its point and of the columns outside it.
-use Rattle.std.specs.Prelude.{ℕ, suc, ◌+◌, ◌-◌, ◌<◌, ◌≤◌, ◌≡◌, ◌≢◌, ℤ, pos, ◌+ℤ◌, ◌-ℤ◌, ◌*ℤ◌, neg_ℤ, ◌≤ℤ◌, ◌<ℤ◌, Bool, unsigned_abs}
-use Rattle.std.specs.Int.{◌∣◌}
+use Rattle.std.specs.Prelude.{ℕ, ◌+◌, ◌-◌, ◌<◌, ◌≡◌, ◌≢◌, ℤ, pos, ◌+ℤ◌, ◌-ℤ◌, ◌*ℤ◌, neg_ℤ, ◌≤ℤ◌, ◌<ℤ◌, Bool}
 use Rattle.std.proofs.Common.{refl, ap, sym, subst, ◌∙◌, arith, inl, inr}
 use Rattle.std.proofs.lemmas.Int.{ints}
 use Rattle.bz_algebra.specs.Sums.{upto}
-use Rattle.bz_algebra.specs.Tableaus.{Equations, side, Program, IsCombination, IsRow, IsTableau, IsObjectiveRow, row_entry, objective_entry, rows_of, equations_of, factor, with_factor}
-use Rattle.bz_algebra.proofs.Bounded.{by_lt, with_last, with_last_at, with_last_before}
-use Rattle.bz_algebra.proofs.Combinations.{combination_upto}
-use Rattle.bz_algebra.proofs.Programs.{own, own_is, own_row, combination_columns, row_of_objective, objective_row, factor_off}
-use Rattle.bz_algebra.proofs.Ring.{*ℤ_assoc, neg_mul, mul_add, add_mul, mul_zero, zero_mul, mul_one, mul_nonnegative, cancel_le_right}
+use Rattle.bz_algebra.specs.Tableaus.{Equations, side, Program, IsRow, IsTableau, IsObjectiveRow, row_entry, objective_entry, rows_of, equations_of, factor, with_factor}
+use Rattle.bz_algebra.proofs.Bounded.{by_lt}
+use Rattle.bz_algebra.proofs.Programs.{combination_columns, objective_row, factor_off}
+use Rattle.bz_algebra.proofs.Ring.{*ℤ_assoc, neg_mul, mul_add, add_mul, mul_zero, zero_mul, mul_nonnegative, cancel_le_right}
 use Rattle.bz_algebra.proofs.SumLemmas.{upto_same, upto_add, upto_scale, upto_scale_right, upto_split, upto_only, upto_zeros}
-use Rattle.bz_algebra.proofs.Uniqueness.{row_unique}
 use Rattle.bz_tableau.proofs.OneObjective.{objective_is as objective_of}
 use Rattle.bz_lex.proofs.Wholes.{IsWhole, only_zero, extended, extended_before, extended_slack, extended_meets, whole_of_half, basic_or_not, sums_at}
 use Rattle.bz_lex.specs.Answers.{AreMultipliersFor, IsSameCost}

@@ -20,7 +20,7 @@ use Rattle.bz_lex.proofs.PhaseOne.{entering_rises, objective_right, s_right, emp
 use Rattle.bz_tableau.proofs.OneObjective.{objective_same}
 use Rattle.bz_lex.proofs.RelaxedStarts.{relaxed_entries, lowest_right, zero_right, other_entry}
 use Rattle.bz_lex.proofs.TablesOnTheWay.{shown_side, shown_column, own_last, own_before}
-use Rattle.bz_lex.proofs.Unrelaxing.{basis_unrelaxed, rights_unrelaxed}
+use Rattle.bz_lex.proofs.BasesUnrelaxed.{basis_unrelaxed, rights_unrelaxed}
 
 -- ---- numbers that are shown
 right_is : (s : Equations) (t : Table) (i : ℕ) → IsTableOf s t.slack t.basis t.rows → shown t i (factor_column t) ≡ number t.rows i (side s)

@@ -1,10 +1,10 @@
 -- A phase, basis by basis: how it begins, that a pivot on the leaving row goes on, and that it ends.
 use Rattle.std.specs.Prelude.{ℕ, suc, ◌+◌, ◌^◌, ◌<◌, ◌≤◌, ◌≡◌, ◌≢◌, ◌⊎◌, ℤ, pos, ◌≤ℤ◌, ◌<ℤ◌, List, [], ◌∷◌, length}
 use Rattle.std.proofs.Common.{sym, subst, ◌∙◌, arith}
-use Rattle.bz_algebra.specs.Tableaus.{Equations, side, IsTableau, IsPivot}
+use Rattle.bz_algebra.specs.Tableaus.{Equations, side, IsTableau, IsPivot, NoTwoAlike}
 use Rattle.bz_algebra.proofs.Uniqueness.{tableau_basis}
 use Rattle.bz_lex.specs.Lexicographic.{order, AreInRange, read, IsAbove, IsLeaving, IsStage}
-use Rattle.bz_lex.proofs.LexBases.{met_none, met_more, met_few}
+use Rattle.bz_lex.proofs.LexBases.{is_new, met_none, met_more, met_few}
 use Rattle.bz_lex.proofs.LexOrder.{positive_start}
 use Rattle.bz_lex.proofs.LexPivots.{kept_positive, moved_above}
 use Rattle.bz_lex.proofs.LexStart.{order_in_range, first_rows_positive, one_above}
@@ -57,3 +57,7 @@ stage_next = next
 -- the bases met and the present one are at most 2 to the number of columns before the factor column
 pub stage_few : (s : Equations) (first : ℕ → ℕ) (o : ℕ) (basis : ℕ → ℕ) (w : ℕ → ℕ → ℤ) (met : List (ℕ → ℕ)) → IsStage s first o basis w met → suc (length met) ≤ 2 ^ (s.slack + o)
 stage_few s first o basis w met g = met_few s (suc o) (order s first) o basis w met g.last (in_range s first o basis w met g) g.tableau g.own g.before
+
+-- no two of the bases met, the present one with them, have the same columns
+pub stage_different : (s : Equations) (first : ℕ → ℕ) (o : ℕ) (basis : ℕ → ℕ) (w : ℕ → ℕ → ℤ) (met : List (ℕ → ℕ)) → IsStage s first o basis w met → NoTwoAlike o (basis ∷ met)
+stage_different s first o basis w met g = (is_new s (suc o) (order s first) o (s.slack + o) basis w met g.last (in_range s first o basis w met g) g.tableau g.own g.before, g.before.different)

@@ -2,7 +2,7 @@
 use Rattle.std.specs.Prelude.{ℕ, zero, suc, ◌+◌, ◌^◌, ◌<◌, ◌≤◌, ◌≡◌, ◌≢◌, ℤ, pos, ◌≤ℤ◌, ◌<ℤ◌, List, [], ◌∷◌, length}
 use Rattle.std.proofs.Common.{refl, ap, sym, subst, ◌∙◌, arith}
 use Rattle.std.proofs.lemmas.Bool.{eq-eqb, ne_eqb}
-use Rattle.bz_algebra.specs.Tableaus.{Equations, side}
+use Rattle.bz_algebra.specs.Tableaus.{Equations, side, NoTwoAlike}
 use Rattle.bz_tableau.specs.Laws.{place}
 use Rattle.bz_tableau.specs.Pivots.{IsPivoted}
 use Rattle.bz_tableau.specs.Tables.{Table, IsTableOf, own, number, shown, factor_column}
@@ -12,7 +12,7 @@ use Rattle.bz_lex.specs.TableStages.{shown_order, IsLeavingRow, IsTableStage}
 use Rattle.bz_lex.proofs.LexLeaving.{leaving_same}
 use Rattle.bz_lex.proofs.LexOrder.{level_same}
 use Rattle.bz_lex.proofs.LexStart.{few_rows_not_level}
-use Rattle.bz_lex.proofs.Stages.{stage_first, stage_next, stage_few, stage_right}
+use Rattle.bz_lex.proofs.Stages.{stage_first, stage_next, stage_few, stage_different, stage_right}
 
 -- ---- numbers that are shown
 pub shown_side : (t : Table) (i : ℕ) → shown t i (factor_column t) ≡ number t.rows i (suc (factor_column t))
@@ -100,3 +100,7 @@ table_next = next
 -- the bases met and the present one are at most 2 to the number of columns
 pub table_few : (s : Equations) (first : List ℕ) (t : Table) (met : List (ℕ → ℕ)) → IsTableStage s first t met → suc (length met) ≤ 2 ^ factor_column t
 table_few s first t met g = subst (λ (n : ℕ). suc (length met) ≤ 2 ^ (n + length t.basis)) g.table.slack_is (stage_few s (own t.slack first) (length t.basis) (own t.slack t.basis) (number t.rows) met g.stage)
+
+-- no two of the bases met, the table's own with them, have the same columns
+pub table_different : (s : Equations) (first : List ℕ) (t : Table) (met : List (ℕ → ℕ)) → IsTableStage s first t met → NoTwoAlike (length t.basis) (own t.slack t.basis ∷ met)
+table_different s first t met g = stage_different s (own t.slack first) (length t.basis) (own t.slack t.basis) (number t.rows) met g.stage

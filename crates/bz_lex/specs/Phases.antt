@@ -1,8 +1,8 @@
 -- One phase of the lexicographic simplex: its columns that enter, its pivots, and what it comes to.
-use Rattle.std.specs.Prelude.{ℕ, suc, ◌<◌, ◌≤◌, ◌≡◌, pos, ◌≤ℤ◌, ◌<ℤ◌, Bool, true, List, length, unsigned_abs, Option, MatchOption}
-use Rattle.bz_algebra.specs.Tableaus.{Equations}
+use Rattle.std.specs.Prelude.{ℕ, suc, ◌<◌, ◌≤◌, ◌≡◌, pos, ◌≤ℤ◌, ◌<ℤ◌, Bool, true, List, [], ◌∷◌, length, map, unsigned_abs, Option, MatchOption}
+use Rattle.bz_algebra.specs.Tableaus.{Equations, NoTwoAlike}
 use Rattle.bz_tableau.specs.Pivots.{IsPivoted}
-use Rattle.bz_tableau.specs.Tables.{Table, IsTableOf, IsTableauOf, factor_column, shown}
+use Rattle.bz_tableau.specs.Tables.{Table, IsTableOf, IsTableauOf, own, factor_column, shown}
 use Rattle.bz_tableau.specs.declared.answers.LpStop.{LpStop}
 use Rattle.bz_tableau.specs.declared.programs.Lp.{Lp}
 use Rattle.bz_lex.specs.Lexicographic.{IsAbove, AreLevel, IsLeaving}
@@ -29,16 +29,18 @@ pub record IsGreatestOf (t : Table) (column : ℕ) (Counts : ℕ → Type 0) (si
 abbrev pub IsGreatestSize : Table → ℕ → ℕ → Type 0
 IsGreatestSize t column size = IsGreatestOf t column (λ i. i ≤ length t.basis) size
 
--- the column may enter, and none that may has a lesser greatest size
+-- the column may enter, none that may has a lesser greatest size, and none before it has the same
 pub record IsChosen (t : Table) (column : ℕ) : Type 0 where
   pub entering : IsEntering t column
   pub least : (size other_column other : ℕ) → IsGreatestSize t column size → IsEntering t other_column → IsGreatestSize t other_column other → size ≤ other
+  pub first : (size other_column other : ℕ) → IsGreatestSize t column size → IsEntering t other_column → IsGreatestSize t other_column other → other_column < column → size < other
 
 -- of the first m columns this one, with this greatest size, is chosen
 pub record IsChosenOf (m : ℕ) (t : Table) (column size : ℕ) : Type 0 where
   pub entering : IsEntering t column
   pub size_is : IsGreatestSize t column size
   pub least : (j other : ℕ) → j < m → IsEntering t j → IsGreatestSize t j other → size ≤ other
+  pub first : (j other : ℕ) → j < column → IsEntering t j → IsGreatestSize t j other → size < other
 
 -- the choice of the first m columns, with its greatest size, or none of them may enter
 abbrev pub IsChoiceOf : ℕ → Table → Option (ℕ × ℕ) → Type 0
@@ -71,6 +73,21 @@ pub record IsPhasePivot (first : List ℕ) (old new : Table) : Type 0 where
   pub entering : IsEntering old column
   pub leaving : IsLeavingRow old first column row
   pub pivoted : IsPivoted old row column new
+
+-- the tables left on the way of a phase from old to new, the last first: each next one is after a pivot of the phase
+abbrev pub IsPhaseWay : List ℕ → Table → Table → List Table → Type 0
+IsPhaseWay first old new [] = new ≡ old
+IsPhaseWay first old new (last ∷ left) = IsPhaseWay first old last left × IsPhasePivot first last new
+
+-- the columns of a table's places
+abbrev pub columns_of : Table → ℕ → ℕ
+columns_of t = own t.slack t.basis
+
+-- new is reached from old by pivots of the phase that began at old, and of all the tables met, old and new among them, no two have the same columns in their bases
+pub record MeetsNoBasisTwice (old new : Table) : Type 0 where
+  pub left : List Table
+  pub way : IsPhaseWay old.basis old new left
+  pub different : NoTwoAlike (length old.basis) (map columns_of (new ∷ left))
 
 -- what a phase comes to at its last table: no number of the objective row is negative, or it falls freely in a column
 abbrev pub IsPhaseEnd : Table → PhaseEnd → Type 0

@@ -1,4 +1,4 @@
-//! Programs solved whose bases are degenerate. The least costs were worked out by trying all bases in fractions; an
+//! Programs solved whose bases are degenerate. The least costs and least s are from outside, not from this solver; an
 //! answer is checked by its own numbers, whatever its basis.
 ghost use Rattle.std.specs.Prelude.{◌<◌, IfOk, length};
 ghost use Rattle.bz_algebra.specs.Sums.{AllBelow};
@@ -222,9 +222,22 @@ fn five_rows_through_the_origin(rt: HostRuntime) -> Result<(), Fail> {
     Ok(())
 }
 
-// The programs of Beale and of Chvatal, on which the rule of the most negative entry goes round for ever.
+// Solow's program. The rule of the most negative entry, the first of equals, with the last of the rows of the least
+// quotient, is back at the slacks after six pivots, and so goes round for ever.
 #[test]
-fn known_to_cycle(rt: HostRuntime) -> Result<(), Fail> {
+fn cycles_by_the_most_negative_entry(rt: HostRuntime) -> Result<(), Fail> {
+    let solow = Case {
+        rows: &[(&[2, 1, -3, -1], 0), (&[-7, -3, 7, 2], 0)],
+        cost: &[-2, -2, 8, 2],
+        want: Want::Least { cost: (0, 1) },
+        s: (0, 1),
+    };
+    check(&rt, rt.alloc(), &solow)
+}
+
+// Degenerate programs after Beale's and Chvatal's, with each row multiplied until its numbers are whole.
+#[test]
+fn degenerate_after_books(rt: HostRuntime) -> Result<(), Fail> {
     let alloc = rt.alloc();
     let beale = Case {
         rows: &[

@@ -1,7 +1,7 @@
 //! The column that enters the basis.
-ghost use Rattle.std.specs.Prelude.{◌≡◌, ◌<◌, suc, MatchOption, length};
+ghost use Rattle.std.specs.Prelude.{◌≡◌, ◌<◌, suc, IfSome, MatchOption, length};
 ghost use Rattle.bz_tableau.specs.Tables.{factor_column};
-ghost use Rattle.bz_lex.specs.Phases.{IsChosen, IsChoiceOf, IsGreatestSize};
+ghost use Rattle.bz_lex.specs.Phases.{IsChosen, IsChoiceOf, IsEntering, IsGreatestSize};
 ghost use Rattle.bz_lex.specs.Shown.{HasLeastCost};
 
 use bz_tableau::Tableau;
@@ -20,7 +20,7 @@ fn greatest_size(tableau: &Tableau, rows: u32, column: u32) -> u128
 }
 
 // The choice of the columns up to this one, with its greatest size. Any column in which the objective row is negative
-// would do; small numbers stay small.
+// would do; by this choice small numbers stay small.
 fn next_choice(
     tableau: &Tableau,
     rows: u32,
@@ -42,11 +42,13 @@ fn next_choice(
     }
 }
 
-/// The column that enters: of those in which the objective row is negative one whose greatest number is least.
+/// The column that enters: of those in which the objective row is negative the first whose greatest number is least in
+/// size. A phase asks only that the objective row is negative there.
 pub fn entering(tableau: &Tableau, rows: u32, side: u32) -> Option<u32>
     requires rows { rows ≡ length tableau.now.basis }
     requires side { side ≡ factor_column tableau.now }
-    ensures { MatchOption result (HasLeastCost tableau.now) (λ column. IsChosen tableau.now column) }
+    ensures enters { MatchOption result (HasLeastCost tableau.now) (λ column. IsEntering tableau.now column) }
+    ensures chosen { IfSome result (λ column. IsChosen tableau.now column) }
 {
     let mut choice = None;
     for column in 0..side {

@@ -3,18 +3,18 @@
 
 mod answering;
 mod entering;
-mod entering_s;
 mod laws;
 mod least;
 mod leaving;
-mod leaving_s;
 mod multiples;
 mod order;
 mod phase;
 mod ray;
+mod relaxing;
 mod signs;
 mod solving;
 mod towards;
+mod unrelaxing;
 mod values;
 
 pub use answering::answer_at;

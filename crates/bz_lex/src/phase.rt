@@ -2,7 +2,7 @@
 ghost use Rattle.std.specs.Prelude.{◌≡◌, IfOk, IfErr, OnErr, MatchOption, length};
 ghost use Rattle.bz_tableau.specs.Programs.{IsLp};
 ghost use Rattle.bz_tableau.specs.Tables.{factor_column, IsTableauOf};
-ghost use Rattle.bz_lex.specs.Phases.{IsOnPhase, IsPhasePivot, IsPhaseEnd, IsPhaseTable, IsPhaseStop};
+ghost use Rattle.bz_lex.specs.Phases.{IsOnPhase, IsPhasePivot, IsPhaseEnd, IsPhaseTable, IsPhaseStop, MeetsNoBasisTwice};
 ghost use Rattle.bz_lex.specs.Shown.{HasPoint};
 
 use crate::answering::first_slack;
@@ -64,6 +64,7 @@ fn turns<L: Ledger>(
     requires rows { rows ≡ length tableau.old.basis }
     requires side { side ≡ factor_column tableau.old }
     ensures table { IsPhaseTable tableau.old tableau.new }
+    ensures once { MeetsNoBasisTwice tableau.old tableau.new }
     ensures end { IfOk result (λ end. IsPhaseEnd tableau.new end) }
     ensures stopped { IfErr result (λ stop. IsPhaseStop tableau.old stop) }
 {
@@ -77,7 +78,8 @@ fn turns<L: Ledger>(
 }
 
 /// Pivots from a tableau with a point, by the lexicographic rule, until no column enters or the objective row falls
-/// freely in one. It is refused where a pivot is, and by want of memory; the tableau is then the last one met.
+/// freely in one. No basis is met twice. It is refused where a pivot is, and by want of memory; the tableau is then the
+/// last one met.
 pub fn run_phase(
     alloc: Global,
     lp: &Lp,
@@ -88,6 +90,7 @@ pub fn run_phase(
     requires tableau { IsTableauOf relaxed lp.now tableau.old }
     requires point { HasPoint tableau.old }
     ensures table { IsPhaseTable tableau.old tableau.new }
+    ensures once { MeetsNoBasisTwice tableau.old tableau.new }
     ensures end { IfOk result (λ end. IsPhaseEnd tableau.new end) }
     ensures stopped { IfErr result (λ stop. IsPhaseStop tableau.old stop) }
 {

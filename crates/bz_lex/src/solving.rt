@@ -1,5 +1,5 @@
 //! Programs solved: the first phase finds a point, the second one of least cost.
-ghost use Rattle.std.specs.Prelude.{◌≡◌, IfOk, IfErr, length, pos, ◌<◌, ◌+◌, ◌^◌, ◌<ℤ◌, true, false};
+ghost use Rattle.std.specs.Prelude.{◌≡◌, IfOk, IfErr, IfSome, length, pos, ◌<◌, ◌+◌, ◌^◌, ◌<ℤ◌, true, false};
 ghost use Rattle.bz_tableau.specs.Programs.{IsLp, program_of};
 ghost use Rattle.bz_tableau.specs.Tables.{IsTableauOf};
 ghost use Rattle.bz_lex.specs.Answers.{Answers, IsAnswer, NamesLeast};
@@ -8,10 +8,10 @@ ghost use Rattle.bz_lex.specs.Stops.{IsTrueStop, IsTrueRelaxedStop};
 ghost use Rattle.bz_lex.specs.Ways.{right_side};
 
 use crate::answering::{answer_at, first_slack};
-use crate::entering_s::relaxed_start;
-use crate::leaving_s::feasible_start;
 use crate::phase::{PhaseEnd, run_phase};
+use crate::relaxing::relaxed_start;
 use crate::signs::has_point;
+use crate::unrelaxing::feasible_start;
 use crate::values::multipliers;
 use bz_num::Items;
 use bz_tableau::{Answer, Lp, LpStop, Tableau};
@@ -75,6 +75,22 @@ fn finish(alloc: Global, lp: &Lp, mut tableau: Tableau) -> Result<Answer, LpStop
     }
 }
 
+// The tableau of the slacks, where it has no negative right side. Where it has one it is let go before the first phase.
+fn slack_start(alloc: Global, lp: &Lp) -> Result<Option<Tableau>, LpStop>
+    requires lp { IsLp lp.now }
+    ensures tableau { IfOk result (λ start. IfSome start (λ t. IsTableauOf false lp.now t)) }
+    ensures point { IfOk result (λ start. IfSome start (λ t. HasPoint t)) }
+    ensures refused { IfErr result (λ stop. IsTrueStop lp.now stop) }
+{
+    let tableau = Tableau::new(alloc, lp, false)?;
+    let rows = tableau.basis().len() as u32;
+    if has_point(&tableau, rows, first_slack(lp, false) + rows) {
+        Ok(Some(tableau))
+    } else {
+        Ok(None)
+    }
+}
+
 /// What the program comes to: a point of least cost, no point, or a cost without bound, by a basis that shows it. It is
 /// refused where a pivot on the way, or a number of the answer, is wide, and by want of memory.
 pub fn solve(alloc: Global, lp: &Lp) -> Result<Answer, LpStop>
@@ -82,9 +98,7 @@ pub fn solve(alloc: Global, lp: &Lp) -> Result<Answer, LpStop>
     ensures answers { IfOk result (λ a. Answers lp.now a) }
     ensures refused { IfErr result (λ stop. IsTrueStop lp.now stop) }
 {
-    let tableau = Tableau::new(alloc, lp, false)?;
-    let rows = tableau.basis().len() as u32;
-    if has_point(&tableau, rows, first_slack(lp, false) + rows) {
+    if let Some(tableau) = slack_start(alloc, lp)? {
         return finish(alloc, lp, tableau);
     }
     let relaxed = relaxed_least(alloc, lp)?;

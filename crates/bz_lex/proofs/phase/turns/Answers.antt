@@ -1,7 +1,7 @@
 -- Each turn meets a basis more.
 use Rattle.std.proofs.Common.{◌≡◌, ◌∙◌, sym, suc, add-one}
 use Rattle.bz_tableau.specs.Tables.{factor_column}
-use Rattle.bz_lex.proofs.PhaseTurns.{IsUnderWay, way_first, way_table, way_next, way_few, way_side, left_less}
+use Rattle.bz_lex.proofs.PhaseTurns.{IsUnderWay, way_first, way_table, way_once, way_next, way_few, way_side, left_less}
 use Rattle.bz_lex.proofs.phase.turns.Goals as goal
 
 pub loop-share-init : goal.loop-share-init
@@ -10,6 +10,9 @@ loop-share-init g c = record {
   way = rw c.open-met.ensures.total (way_first c.args.tableau.now c.args.first.now c.requires.first c.requires.phase);
 }
 
+pub returns-in_err-end-clause-once : goal.returns-in_err-end-clause-once
+returns-in_err-end-clause-once g c = rw c.in_err-end.ensures.unchanged (way_once c.args.tableau.now c.args.first.now c.loop-share.met.total c.loop-share.tableau c.loop-share.invariant.way c.requires.phase c.requires.first)
+
 pub returns-in_err-end-clause-table : goal.returns-in_err-end-clause-table
 returns-in_err-end-clause-table g c = rw c.in_err-end.ensures.unchanged (way_table c.args.tableau.now c.args.first.now c.loop-share.met.total c.loop-share.tableau c.loop-share.invariant.way c.requires.phase)
 
@@ -17,6 +20,11 @@ pub returns-in-Some-clause-table : goal.returns-in-Some-clause-table
 returns-in-Some-clause-table g c =
     let turned = rw c.in-Some.is at c.in_ok-end.ensures.turned in
     rw turned.0 (way_table c.args.tableau.now c.args.first.now c.loop-share.met.total c.loop-share.tableau c.loop-share.invariant.way c.requires.phase)
+
+pub returns-in-Some-clause-once : goal.returns-in-Some-clause-once
+returns-in-Some-clause-once g c =
+    let turned = rw c.in-Some.is at c.in_ok-end.ensures.turned in
+    rw turned.0 (way_once c.args.tableau.now c.args.first.now c.loop-share.met.total c.loop-share.tableau c.loop-share.invariant.way c.requires.phase c.requires.first)
 
 pub loop-share-smaller : goal.loop-share-smaller
 loop-share-smaller g c =

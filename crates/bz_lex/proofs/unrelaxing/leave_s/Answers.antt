@@ -5,10 +5,10 @@ use Rattle.bz_tableau.specs.Pivots.{IsPivoted}
 use Rattle.bz_tableau.specs.Refusals.{IsRefusal}
 use Rattle.bz_lex.specs.Shown.{HasPoint}
 use Rattle.bz_lex.specs.Stops.{IsTrueStop}
-use Rattle.bz_lex.proofs.LeavingS.{s_has_entry, s_may_leave, left_point, left_away}
+use Rattle.bz_lex.proofs.RelaxedLeaving.{s_has_entry, s_may_leave, left_point, left_away}
 use Rattle.bz_lex.proofs.Results.{if_ok_then, if_err_then}
 use Rattle.bz_lex.proofs.TruePivots.{true_way_stop, own_way}
-use Rattle.bz_lex.proofs.leaving_s.leave_s.Goals as goal
+use Rattle.bz_lex.proofs.unrelaxing.leave_s.Goals as goal
 
 pub unreachable-requires : goal.unreachable-requires
 unreachable-requires c =

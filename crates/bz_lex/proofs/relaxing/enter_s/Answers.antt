@@ -4,11 +4,11 @@ use Rattle.bz_tableau.specs.Pivots.{IsPivoted}
 use Rattle.bz_lex.specs.Shown.{HasPoint}
 use Rattle.bz_lex.specs.Stops.{IsTrueRelaxedStop}
 use Rattle.bz_lex.specs.Ways.{IsWayRefusal}
-use Rattle.bz_lex.proofs.EnteringS.{s_may_enter}
+use Rattle.bz_lex.proofs.RelaxedEntering.{s_may_enter}
 use Rattle.bz_lex.proofs.RelaxedTables.{relaxed_point}
 use Rattle.bz_lex.proofs.Results.{if_ok_then, if_err_then}
 use Rattle.bz_lex.proofs.TruePivots.{relaxed_way_stop}
-use Rattle.bz_lex.proofs.entering_s.enter_s.Goals as goal
+use Rattle.bz_lex.proofs.relaxing.enter_s.Goals as goal
 
 pub pivot_towards-requires-clause-nonzero : goal.pivot_towards-requires-clause-nonzero
 pivot_towards-requires-clause-nonzero c = (s_may_enter c.args.lp.now c.args.tableau.now c.requires.tableau c.requires.slacks c.args.row c.requires.least).nonzero

@@ -18,7 +18,7 @@ use Rattle.bz_lex.proofs.RelaxedTables.{relaxed_s_right, relaxed_other_entry, ze
 use Rattle.bz_lex.proofs.TablesOnTheWay.{shown_side}
 use Rattle.bz_lex.proofs.TowardsTables.{pivoted_away}
 use Rattle.bz_lex.proofs.TruePivots.{MayPivot, point_basis}
-use Rattle.bz_lex.proofs.Unrelaxing.{row_unrelaxed, number_behind}
+use Rattle.bz_lex.proofs.BasesUnrelaxed.{row_unrelaxed, number_behind}
 
 -- ---- s leaves
 module _ (lp : Lp) (t : Table) (h : IsTableauOf true lp t) (p : HasPoint t) (zero : right_side t (length t.basis) ≡ pos 0) (r : ℕ) (inside : r < length t.basis) (of_s : place t.basis r ≡ lp.columns) where
