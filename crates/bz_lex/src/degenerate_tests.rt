@@ -235,7 +235,8 @@ fn cycles_by_the_most_negative_entry(rt: HostRuntime) -> Result<(), Fail> {
     check(&rt, rt.alloc(), &solow)
 }
 
-// Degenerate programs after Beale's and Chvatal's, with each row multiplied until its numbers are whole.
+// Degenerate programs after Beale's and Chvatal's, with the rows and the cost multiplied until their numbers are whole;
+// in this form that rule ends on both.
 #[test]
 fn degenerate_after_books(rt: HostRuntime) -> Result<(), Fail> {
     let alloc = rt.alloc();
