@@ -67,7 +67,7 @@ pub record GoesToGoal (relaxed : Bool) (p : Program) (basis goal : List ℕ) (co
   pub basic : (i : ℕ) → i < p.rows → IsOnTheWay relaxed p goal (place basis i)
 
 -- ---- the places
--- the pivot that is named is one that a solution makes, and it goes wide there
+-- the pivot that is named is one that a solution may make, and it goes wide there
 pub record IsTruePivot (relaxed : Bool) (p : Program) (basis goal : List ℕ) (row pivot_row column : ℕ) : Type 0 where
   pub is_basis : IsBasisList relaxed p basis
   pub goal_is : IsPointBasis relaxed p goal
@@ -75,7 +75,7 @@ pub record IsTruePivot (relaxed : Bool) (p : Program) (basis goal : List ℕ) (r
   pub wide : IsWideClearing relaxed p basis row pivot_row column
   pub kind : EntersAtGoal relaxed p basis goal pivot_row column ⊎ (LeavesWithZero relaxed p basis goal pivot_row ⊎ GoesToGoal relaxed p basis goal column)
 
--- the place is wide, and a solution of the program comes there
+-- the place is wide, and a solution of the program may come there
 abbrev pub IsTrueWide : Lp → WideAt → Type 0
 IsTrueWide lp (Build row) = ⊥
 IsTrueWide lp (Pivot relaxed basis goal row pivot_row column) = IsTruePivot relaxed (program_of lp) basis goal row pivot_row column
