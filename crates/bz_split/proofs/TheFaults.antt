@@ -43,9 +43,9 @@ same_column F G m part j k h g =
     (both.0, ap (λ (e : ℕ × Column). e.1) both.1)
 
 -- no column has faults of two kinds
-apart : (F G : ℕ → Column → Type 0) → ((own : ℕ) (c : Column) → F own c → G own c → ⊥) → (m : Model) (part : List ℕ) (j k : ℕ) →
+of_two_kinds : (F G : ℕ → Column → Type 0) → ((own : ℕ) (c : Column) → F own c → G own c → ⊥) → (m : Model) (part : List ℕ) (j k : ℕ) →
     IsFirstColumn F m part j → IsFirstColumn G m part k → ⊥
-apart F G n m part j k h g =
+of_two_kinds F G n m part j k h g =
     let both : (j ≡ k) × (h.column ≡ g.column) = same_column F G m part j k h g in
     let there : G (part_of part j) g.column = subst (λ (i : ℕ). G (part_of part i) g.column) (sym both.0) g.fault in
     n (part_of part j) h.column h.fault (subst (λ (c : Column). G (part_of part j) c) (sym both.1) there)
@@ -97,19 +97,19 @@ same_fault m part (Joins i a b) (TooLarge c n) h k = absurd (joined m part i a b
 same_fault m part (Joins i a b) OutOfMemory h k = absurd k
 same_fault m part (IntegerInBlock i) (Joins j c d) h k = absurd (joined m part j c d k h.rows)
 same_fault m part (IntegerInBlock i) (IntegerInBlock j) h k = ap IntegerInBlock (same_column _ _ m part i j h k).0
-same_fault m part (IntegerInBlock i) (IntegerOpen j) h k = absurd (apart _ _ block_open m part i j h k)
-same_fault m part (IntegerInBlock i) (OpenMaster j) h k = absurd (apart _ _ block_master m part i j h k)
+same_fault m part (IntegerInBlock i) (IntegerOpen j) h k = absurd (of_two_kinds _ _ block_open m part i j h k)
+same_fault m part (IntegerInBlock i) (OpenMaster j) h k = absurd (of_two_kinds _ _ block_master m part i j h k)
 same_fault m part (IntegerInBlock i) (TooLarge c n) h k = absurd (misplaced _ m part i h k.columns)
 same_fault m part (IntegerInBlock i) OutOfMemory h k = absurd k
 same_fault m part (IntegerOpen i) (Joins j c d) h k = absurd (joined m part j c d k h.rows)
-same_fault m part (IntegerOpen i) (IntegerInBlock j) h k = absurd (apart _ _ block_open m part j i k h)
+same_fault m part (IntegerOpen i) (IntegerInBlock j) h k = absurd (of_two_kinds _ _ block_open m part j i k h)
 same_fault m part (IntegerOpen i) (IntegerOpen j) h k = ap IntegerOpen (same_column _ _ m part i j h k).0
-same_fault m part (IntegerOpen i) (OpenMaster j) h k = absurd (apart _ _ open_master m part i j h k)
+same_fault m part (IntegerOpen i) (OpenMaster j) h k = absurd (of_two_kinds _ _ open_master m part i j h k)
 same_fault m part (IntegerOpen i) (TooLarge c n) h k = absurd (misplaced _ m part i h k.columns)
 same_fault m part (IntegerOpen i) OutOfMemory h k = absurd k
 same_fault m part (OpenMaster i) (Joins j c d) h k = absurd (joined m part j c d k h.rows)
-same_fault m part (OpenMaster i) (IntegerInBlock j) h k = absurd (apart _ _ block_master m part j i k h)
-same_fault m part (OpenMaster i) (IntegerOpen j) h k = absurd (apart _ _ open_master m part j i k h)
+same_fault m part (OpenMaster i) (IntegerInBlock j) h k = absurd (of_two_kinds _ _ block_master m part j i k h)
+same_fault m part (OpenMaster i) (IntegerOpen j) h k = absurd (of_two_kinds _ _ open_master m part j i k h)
 same_fault m part (OpenMaster i) (OpenMaster j) h k = ap OpenMaster (same_column _ _ m part i j h k).0
 same_fault m part (OpenMaster i) (TooLarge c n) h k = absurd (misplaced _ m part i h k.columns)
 same_fault m part (OpenMaster i) OutOfMemory h k = absurd k
