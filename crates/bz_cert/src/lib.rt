@@ -1,12 +1,6 @@
-//! Certificates from their texts.
+//! Certificates and their texts.
 #![tactic(auto)]
 
-mod cert_lines;
-mod cert_numbers;
-mod laws;
-mod reading;
-#[cfg(test)]
-mod tests;
+mod records;
 
-pub use laws::text_has_one_certificate;
-pub use reading::read_cert;
+pub use records::{Certificate, Verdict};

@@ -11,8 +11,8 @@ use Rattle.bz_model.specs.Splits.{FitsPart}
 use Rattle.bz_model.proofs.Inequalities.{inequalities_fit}
 use Rattle.bz_model.proofs.MeetingParts.{all_then, feasible_meets, meeting_is_feasible}
 use Rattle.bz_model.proofs.PartSums.{at_part, dot_by_parts, negated_within, terms_in_within}
-use Rattle.bz_pass.specs.declared.records.Cut.{Cut}
-use Rattle.bz_pass.specs.Cuts.{IsValid}
+use Rattle.bz_cut.specs.declared.Cut.{Cut}
+use Rattle.bz_cut.specs.Cuts.{IsValid}
 pub use Rattle.bz_pass.specs.Laws.{IsDecomposed}
 use Rattle.bz_pass.proofs.Fractional.{divided}
 use Rattle.bz_pass.proofs.Numbered.{upto_first}

@@ -16,17 +16,21 @@ use Rattle.bz_model.specs.Points.{coordinate, IsFeasible}
 use Rattle.bz_model.proofs.Inequalities.{master_has_own_alone}
 use Rattle.bz_model.proofs.MeetingParts.{all_append, all_both, all_then, all_flat}
 use Rattle.bz_model.proofs.PartSums.{at_part}
-use Rattle.bz_pass.specs.declared.records.Cut.{Cut}
-use Rattle.bz_pass.specs.declared.records.Leaf.{Leaf}
-use Rattle.bz_pass.specs.Boxes.{Box, LiesIn}
-use Rattle.bz_pass.specs.Certificates.{LeafPasses}
-use Rattle.bz_pass.specs.Cuts.{IsValid}
-use Rattle.bz_pass.specs.Leaves.{LeafHolds, sides_of, side_of_master, sides_of_box, side_of_cut}
+use Rattle.bz_cut.specs.declared.Cut.{Cut}
+use Rattle.bz_tree.specs.declared.Leaf.{Leaf}
+use Rattle.bz_tree.specs.Boxes.{Box, LiesIn}
+use Rattle.bz_cut.specs.Cuts.{IsValid}
+use Rattle.bz_tree.specs.Leaves.{LeafHolds, sides_of, side_of_master, sides_of_box, side_of_cut}
 use Rattle.bz_pass.proofs.CutsHold.{IsDecomposed, meets, cost_of_part, cost_terms_within, cost_by_parts, part_fits, cut_holds}
 use Rattle.bz_pass.proofs.Fractional.{turned}
 use Rattle.bz_pass.proofs.MasterIntegers.{IsBoundedInMaster, integers_bounded}
 use Rattle.bz_pass.proofs.Numbered.{all_mapped, all_numbered}
 use Rattle.bz_pass.proofs.Sides.{FitsIn, HoldsAt, sum_holds, upto_multiple_neg}
+
+-- the leaf holds over the box, and is empty or has a bound that is no less than value / den
+pub record LeafPasses (m : Model) (part : List ℕ) (box : Box) (cuts : List Cut) (value den : ℤ) (leaf : Leaf) : Type 0 where
+  pub holds : LeafHolds m part box cuts leaf
+  pub bound : pos 0 <ℤ leaf.delta → (value *ℤ leaf.delta) ≤ℤ (leaf.bound *ℤ den)
 
 -- ---- one side
 alone : (i : Ineq) (x y : ℕ → ℤ) (q : ℤ) → i.master ≡ [] → (dot i.own y +ℤ dot i.master y) ≤ℤ (i.rhs *ℤ q) → HoldsAt x y q (side_of_master i)

@@ -1,10 +1,13 @@
+pub mod Covering
 pub mod CutsHold
 pub mod Fractional
+pub mod Judging
 pub mod LeavesHold
 pub mod MasterIntegers
 pub mod Numbered
 pub mod Optimality
 pub mod PointsOfParts
+pub mod Rays
 pub mod Sides
 pub mod SomePoint
-pub mod WorkedExample
+pub mod WorkedTrees

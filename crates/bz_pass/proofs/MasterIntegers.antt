@@ -11,7 +11,7 @@ use Rattle.bz_model.specs.Points.{coordinate, IsFeasible, IsWithinBounds, IsWhol
 use Rattle.bz_model.specs.Strict.{IsStrictColumn}
 use Rattle.bz_model.proofs.MeetingParts.{all_both, all_kept, numbers_within}
 use Rattle.bz_model.proofs.Positions.{column_of_position_in, position_within_part}
-use Rattle.bz_pass.specs.Boxes.{Box, IsRootBox, LiesIn}
+use Rattle.bz_tree.specs.Boxes.{Box, IsRootBox, LiesIn}
 use Rattle.bz_pass.proofs.CutsHold.{IsDecomposed, meets}
 use Rattle.bz_pass.proofs.Fractional.{above_ceiling, below_floor}
 use Rattle.bz_pass.proofs.Numbered.{all_numbered}

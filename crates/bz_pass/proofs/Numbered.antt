@@ -6,7 +6,7 @@ use Rattle.std.proofs.lemmas.Bool.{cases_eq}
 use Rattle.std.proofs.lemmas.Int.{ints}
 use Rattle.bz_algebra.specs.Sums.{upto}
 use Rattle.bz_model.specs.Points.{coordinate}
-use Rattle.bz_pass.specs.Certificates.{total}
+use Rattle.bz_pass.specs.PartPoints.{total}
 
 module _ {X : Type 0} where
   -- what holds of each element holds of it beside its number

@@ -1,4 +1,4 @@
--- A passing certificate's points are optimal, and their objective is the stated one.
+-- From bounds of the inner cost to the objective: a point that reaches the bound is optimal.
 use Rattle.std.specs.Prelude.{ℕ, ◌≡◌, Bool, true, false, ℤ, pos, ◌+ℤ◌, ◌*ℤ◌, ◌≤ℤ◌, ◌<ℤ◌, neg_ℤ, List, MatchBool, if◌then◌else◌}
 use Rattle.std.proofs.Common.{refl, ap, sym, ◌∙◌, arith}
 use Rattle.std.proofs.lemmas.Int.{ints}
@@ -9,17 +9,6 @@ use Rattle.bz_model.specs.declared.Model.{Model}
 use Rattle.bz_model.specs.Parting.{negated, inner_cost}
 use Rattle.bz_model.specs.Points.{coordinate, objective, IsFeasible, IsOptimal}
 use Rattle.bz_model.proofs.PartSums.{dot_negated}
-use Rattle.bz_pass.specs.declared.records.Certificate.{Certificate}
-use Rattle.bz_pass.specs.Certificates.{Passes, IsPointOf, stated_objective}
-use Rattle.bz_pass.specs.Laws.{IsProved}
-use Rattle.bz_pass.proofs.CutsHold.{IsDecomposed}
-use Rattle.bz_pass.proofs.LeavesHold.{passing_leaf_bounds}
-use Rattle.bz_pass.proofs.MasterIntegers.{lies_in_root}
-use Rattle.bz_pass.proofs.PointsOfParts.{point_is_feasible, point_costs_at_most}
-
--- ---- the value is a lower bound
-pub value_at_most : (m : Model) (part : List ℕ) (c : Certificate) (p : List ℤ) (q : ℤ) → IsDecomposed m part → Passes m part c → IsFeasible m p q → (c.value *ℤ q) ≤ℤ (dot (inner_cost m) (coordinate p) *ℤ c.parts.master.den)
-value_at_most m part c p q d s f = passing_leaf_bounds m part s.root c.cuts c.value c.parts.master.den c.tree p q d s.cuts s.shape.den s.tree f (lies_in_root m part s.root p q d s.is_root f)
 
 -- ---- from the inner cost to the objective
 -- a / q is v / d, and b / q' is no less
@@ -93,15 +82,3 @@ least_is_optimal m den v p q some f most bound = (
   where
     reached : dot (inner_cost m) (coordinate p) *ℤ den ≡ v *ℤ q
     reached = le_antisym _ _ most (bound p q f)
-
-decomposed : (m : Model) (part : List ℕ) (c : Certificate) → IsProved m part c → IsDecomposed m part
-decomposed m part c h = record { columns = h.columns; partition = h.partition; strict = h.strict }
-
-pub passing_optimal : (m : Model) (part : List ℕ) (c : Certificate) (p : List ℤ) (q : ℤ) → IsProved m part c → IsPointOf m part c.parts p q → IsOptimal m p q × IsSameNumber (objective m p q) (stated_objective m c)
-passing_optimal m part c p q h r = least_is_optimal m c.parts.master.den c.value p q h.passes.shape.den
-    (point_is_feasible m part c p q d h.passes r)
-    (point_costs_at_most m part c p q d h.passes r)
-    (λ p' q' f'. value_at_most m part c p' q' d h.passes f')
-  where
-    d : IsDecomposed m part
-    d = decomposed m part c h

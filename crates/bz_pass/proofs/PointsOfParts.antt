@@ -19,9 +19,8 @@ use Rattle.bz_model.specs.Points.{coordinate, IsFeasible, IsWithinBounds, IsWhol
 use Rattle.bz_model.proofs.Inequalities.{master_has_own_alone}
 use Rattle.bz_model.proofs.MeetingParts.{all_both, all_then}
 use Rattle.bz_model.proofs.PartSums.{at_part}
-use Rattle.bz_pass.specs.declared.records.Certificate.{Certificate}
-use Rattle.bz_pass.specs.Boxes.{Box, IsRootBox}
-use Rattle.bz_pass.specs.Certificates.{eta_of, total, HasShape, HoldsInMaster, HoldsInBlock, IntegerHolds, BlockHolds, Passes, IsPointOf}
+use Rattle.bz_tree.specs.Boxes.{Box, IsRootBox}
+use Rattle.bz_pass.specs.PartPoints.{eta_of, total, HasShape, HoldsInMaster, HoldsInBlock, IntegerHolds, BlockHolds, IsPointOf}
 use Rattle.bz_pass.proofs.CutsHold.{IsDecomposed, feasible, cost_of_part, cost_terms_within, cost_by_parts, part_fits}
 use Rattle.bz_pass.proofs.Fractional.{scaled_le, scaled_ge, scaled_whole, scaled_sum, within_ceiling, within_floor}
 use Rattle.bz_pass.proofs.MasterIntegers.{IsBoundedInMaster, integers_bounded}
@@ -188,27 +187,3 @@ parts_are_feasible m part parts p q d s r = feasible m part p q d (point_meets m
 
 pub parts_cost_at_most : (m : Model) (part : List ℕ) (parts : Parts) (v : ℤ) (p : List ℤ) (q : ℤ) → IsDecomposed m part → AreWorth m part parts v → IsPointOf m part parts p q → (dot (inner_cost m) (coordinate p) *ℤ parts.master.den) ≤ℤ (v *ℤ q)
 parts_cost_at_most m part parts v p q d s r = inner_at_most m part parts v p q d s r
-
--- ---- the parts of a certificate
--- the point is feasible
-pub point_is_feasible : (m : Model) (part : List ℕ) (c : Certificate) (p : List ℤ) (q : ℤ) → IsDecomposed m part → Passes m part c → IsPointOf m part c.parts p q → IsFeasible m p q
-point_is_feasible m part c p q d s r = parts_are_feasible m part c.parts p q d
-    (record {
-      shape = s.shape;
-      master = s.master;
-      root = s.root;
-      is_root = s.is_root;
-      integers = s.integers;
-      rows = all_then (λ e. BlockHolds m part c.parts.master e.0 e.1) _ (enumerate_from 1 c.parts.blocks) s.blocks (λ e h. h.rows);
-    })
-    r
-
--- the inner cost is at most value / den there
-pub point_costs_at_most : (m : Model) (part : List ℕ) (c : Certificate) (p : List ℤ) (q : ℤ) → IsDecomposed m part → Passes m part c → IsPointOf m part c.parts p q → (dot (inner_cost m) (coordinate p) *ℤ c.parts.master.den) ≤ℤ (c.value *ℤ q)
-point_costs_at_most m part c p q d s r = parts_cost_at_most m part c.parts c.value p q d
-    (record {
-      shape = s.shape;
-      costs = all_then (λ e. BlockHolds m part c.parts.master e.0 e.1) _ (enumerate_from 1 c.parts.blocks) s.blocks (λ e h. h.cost);
-      value = s.value;
-    })
-    r

@@ -8,7 +8,7 @@ use Rattle.bz_algebra.proofs.Duality.{weak_duality}
 use Rattle.bz_algebra.proofs.Ring.{*ℤ_assoc, neg_mul}
 use Rattle.bz_algebra.proofs.SumLemmas.{dot_all, dot_scale_right, dot_same_below, upto_same, upto_scale, upto_neg}
 use Rattle.bz_model.specs.declared.Ineq.{Ineq}
-use Rattle.bz_pass.specs.Rows.{own_at, master_at, rhs_at, AreMultipliers}
+use Rattle.bz_cut.specs.Rows.{own_at, master_at, rhs_at, AreMultipliers}
 
 -- the inequality's own terms are of the first w variables of the one kind, and the others of the first d of the other
 pub record FitsIn (w d : ℕ) (i : Ineq) : Type 0 where

@@ -13,9 +13,7 @@ use Rattle.bz_model.specs.Parting.{part_of, width_of, column_at, position_of}
 use Rattle.bz_model.specs.Points.{coordinate}
 use Rattle.bz_model.proofs.MeetingParts.{all_then}
 use Rattle.bz_model.proofs.Positions.{IsColumnAt, column_at_is}
-use Rattle.bz_pass.specs.declared.records.Certificate.{Certificate}
-use Rattle.bz_pass.specs.Certificates.{HasShape, IsPointOf}
-use Rattle.bz_pass.specs.Laws.{IsProved}
+use Rattle.bz_pass.specs.PartPoints.{HasPointShape, IsPointOf}
 use Rattle.bz_pass.proofs.Numbered.{list_of, length-list_of, coordinate-list_of}
 
 -- the product of the blocks' factors
@@ -78,7 +76,7 @@ module _ (m : Model) (part : List ℕ) (parts : Parts) where
   unfolding the_point
   counted = length-list_of (length m.columns) _
 
-  pub is_point : length part ≡ length m.columns → HasShape m part parts → IsPointOf m part parts the_point (parts.master.den *ℤ all_times parts.blocks)
+  pub is_point : length part ≡ length m.columns → HasPointShape m part parts → IsPointOf m part parts the_point (parts.master.den *ℤ all_times parts.blocks)
   is_point n s = record {
     positive = mul_positive parts.master.den (all_times parts.blocks) s.den (times_positive 1 parts.blocks (all_then _ _ (enumerate_from 1 parts.blocks) s.each (λ e h. h.0)));
     numbers = counted;
@@ -92,6 +90,3 @@ module _ (m : Model) (part : List ℕ) (parts : Parts) where
 
       in_block : (a d t y r : ℤ) → a *ℤ t ≡ y *ℤ (pos 1 *ℤ r) → a *ℤ (d *ℤ t) ≡ y *ℤ (d *ℤ r)
       in_block a d t y r e = mul_left a d t ∙ ap (λ (s : ℤ). d *ℤ s) (e ∙ ap (λ (s : ℤ). y *ℤ s) (one_mul r)) ∙ mul_left d y r
-
-pub passing_point : (m : Model) (part : List ℕ) (c : Certificate) → IsProved m part c → (p : List ℤ) × (q : ℤ) × IsPointOf m part c.parts p q
-passing_point m part c h = (the_point m part c.parts, c.parts.master.den *ℤ all_times c.parts.blocks, is_point m part c.parts h.partition.numbers h.passes.shape)

@@ -1,6 +1,3 @@
-pub mod Boxes
-pub mod Certificates
-pub mod Cuts
 pub mod Laws
-pub mod Leaves
-pub mod Rows
+pub mod PartPoints
+pub mod Verdicts

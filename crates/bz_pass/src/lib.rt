@@ -1,13 +1,12 @@
-//! Certificates of an optimum, what it is for one to pass, and the law that a passing certificate proves its optimum.
+//! What it is for a certificate of each verdict to pass, and the laws that make what it says true.
 //!
 //! This crate knows no text and no search.
 #![tactic(auto)]
 
 mod laws;
-mod records;
 
 pub use laws::{
-    leaves_bound_their_boxes, parts_have_a_point, passing_is_optimal, root_box_has_all_points,
+    leaves_bound_their_boxes, leaves_cover_boxes, parts_have_a_point, passing_is_infeasible,
+    passing_is_optimal, passing_is_unbounded, root_box_has_all_points, trees_bound_costs,
     valid_cuts_hold,
 };
-pub use records::{Certificate, Cut, Leaf};

@@ -9,7 +9,7 @@ use Rattle.bz_model.specs.Parting.{integers_of}
 use Rattle.bz_model.specs.Points.{coordinate}
 use Rattle.bz_model.proofs.MeetingParts.{all_both}
 use Rattle.bz_model.proofs.Sparse.{none_left}
-use Rattle.bz_pass.specs.Boxes.{IsRootBox}
+use Rattle.bz_tree.specs.Boxes.{IsRootBox}
 use Rattle.bz_tree.specs.Ends.{AreEnds, IsLowerEnd, IsUpperEnd, integers_among}
 
 -- the ends so far, followed by those of the columns that are left, are those of all columns

@@ -7,7 +7,7 @@ use Rattle.std.specs.Int.RustNames.{unsigned_abs}
 use Rattle.bz_algebra.specs.Numbers.{IsNarrow}
 use Rattle.bz_algebra.proofs.Ring.{add_mul, sub_mul, one_mul, mul_one, mul_le_left, neg_mul}
 use Rattle.bz_num.specs.declared.Frac.{Frac}
-use Rattle.bz_pass.specs.Boxes.{IsCeiling, IsFloor}
+use Rattle.bz_tree.specs.Boxes.{IsCeiling, IsFloor}
 
 one_more : (q d : ℤ) → (q +ℤ pos 1) *ℤ d ≡ (q *ℤ d) +ℤ d
 one_more q d = add_mul q (pos 1) d ∙ ap (λ (z : ℤ). (q *ℤ d) +ℤ z) (one_mul d)

@@ -3,7 +3,7 @@ use Rattle.std.specs.Prelude.{ℤ, List, [], ◌∷◌, filter, IfSome}
 use Rattle.std.specs.List.{AllByRecursion}
 use Rattle.bz_algebra.specs.Numbers.{IsNarrow}
 use Rattle.bz_model.specs.declared.Column.{Column}
-use Rattle.bz_pass.specs.Boxes.{Box, IsCeiling, IsFloor}
+use Rattle.bz_tree.specs.Boxes.{Box, IsCeiling, IsFloor}
 use Rattle.bz_tree.specs.declared.records.NodeBox.{NodeBox}
 
 -- the box that a record of the code holds

@@ -1,4 +1,4 @@
-pub mod Certificates
+pub mod Boxes
 pub mod Ends
-pub mod Laws
+pub mod Leaves
 pub mod Trees

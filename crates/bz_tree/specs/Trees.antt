@@ -4,10 +4,10 @@ use Rattle.std.specs.Prelude.{ℕ, ℤ, pos, ◌≡◌, ◌+ℤ◌, ◌*ℤ◌, 
 use Rattle.bz_model.specs.declared.Column.{Column}
 use Rattle.bz_model.specs.declared.Model.{Model}
 use Rattle.bz_model.specs.Parting.{position_of, integers_of}
-use Rattle.bz_pass.specs.declared.Cut.{Cut}
-use Rattle.bz_pass.specs.declared.Leaf.{Leaf}
-use Rattle.bz_pass.specs.Boxes.{Box}
-use Rattle.bz_pass.specs.Leaves.{LeafHolds}
+use Rattle.bz_cut.specs.declared.Cut.{Cut}
+use Rattle.bz_tree.specs.declared.records.Leaf.{Leaf}
+use Rattle.bz_tree.specs.Boxes.{Box}
+use Rattle.bz_tree.specs.Leaves.{LeafHolds}
 use Rattle.bz_tree.specs.declared.records.TreeNode.{TreeNode}
 
 -- A tree: a leaf at its tip, or a fork at the position of an integer column in the master, with the numbers that the

@@ -3,7 +3,7 @@ ghost use Rattle.std.specs.Prelude.{◌≡◌, ◌<◌, pos, ◌+ℤ◌, ◌<ℤ
 ghost use Rattle.std.specs.List.{AllByRecursion};
 ghost use Rattle.bz_algebra.specs.Numbers.{IsNarrow};
 ghost use Rattle.bz_model.specs.Points.{coordinate};
-ghost use Rattle.bz_pass.specs.Boxes.{IsRootBox};
+ghost use Rattle.bz_tree.specs.Boxes.{IsRootBox};
 ghost use Rattle.bz_tree.specs.Ends.{IsNarrowBox, box_of};
 ghost use Rattle.bz_tree.specs.Trees.{with_lower, with_upper};
 

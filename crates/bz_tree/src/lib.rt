@@ -1,5 +1,4 @@
-//! The boxes and the trees of branch and bound, what it is for a certificate of any verdict to pass, and the laws that
-//! make what it says true.
+//! The boxes and the trees of branch and bound, and what it is for a tree to hold over a box.
 //!
 //! This crate knows no text and no search.
 #![tactic(auto)]
@@ -10,11 +9,8 @@ mod records;
 mod rounding;
 
 pub use boxes::{root_box, split_box};
-pub use laws::{
-    leaves_cover_boxes, nodes_are_of_one_tree, parts_have_a_point, passing_is_infeasible,
-    passing_is_unbounded, passing_with_tree_is_optimal, trees_bound_costs,
-};
-pub use records::{NodeBox, TreeNode};
+pub use laws::nodes_are_of_one_tree;
+pub use records::{Leaf, NodeBox, TreeNode};
 
 #[cfg(test)]
 mod tests;

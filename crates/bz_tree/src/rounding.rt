@@ -2,7 +2,7 @@
 ghost use Rattle.std.specs.Prelude.{◌≡◌, ◌<◌, pos, ◌+ℤ◌, ◌*ℤ◌, ◌<ℤ◌, IfOk};
 ghost use Rattle.std.specs.Int.RustNames.{unsigned_abs};
 ghost use Rattle.bz_algebra.specs.Numbers.{IsNarrow};
-ghost use Rattle.bz_pass.specs.Boxes.{IsCeiling, IsFloor};
+ghost use Rattle.bz_tree.specs.Boxes.{IsCeiling, IsFloor};
 ghost use Rattle.bz_tree.specs.Ends.{AreEnds, IsLowerEnd, IsUpperEnd, integers_among};
 
 use bz_model::Column;

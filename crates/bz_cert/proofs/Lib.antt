@@ -1,4 +1,0 @@
-pub mod CertLines
-pub mod NumberTexts
-pub mod Readings
-pub mod SparseLists

@@ -1,2 +1,0 @@
-pub mod CertReading
-pub mod CertText

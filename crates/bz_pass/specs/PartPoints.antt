@@ -1,0 +1,80 @@
+-- The point that parts state: the master's, and each block's, and what it is for it to meet the split.
+use Rattle.std.specs.Prelude.{ℕ, ℤ, pos, ◌≡◌, ◌-◌, ◌+ℤ◌, ◌*ℤ◌, ◌<◌, ◌<ℤ◌, ◌≤ℤ◌, List, [], ◌∷◌, length, if◌then◌else◌}
+use Rattle.std.specs.List.{AllByRecursion, enumerate_from}
+use Rattle.std.proofs.Math.IntN.{neg_ℤ}
+use Rattle.bz_algebra.specs.Fractions.{Fraction}
+use Rattle.bz_algebra.specs.Sums.{dot}
+use Rattle.bz_model.specs.declared.BlockPart.{BlockPart}
+use Rattle.bz_model.specs.declared.Column.{Column}
+use Rattle.bz_model.specs.declared.Ineq.{Ineq}
+use Rattle.bz_model.specs.declared.Master.{Master}
+use Rattle.bz_model.specs.declared.Model.{Model}
+use Rattle.bz_model.specs.declared.Parts.{Parts}
+use Rattle.bz_model.specs.Parting.{blocks_of, width_of, column_at, position_of, terms_in, inequalities_of, integers_of, inner_cost}
+use Rattle.bz_model.specs.Points.{coordinate, IsWhole}
+use Rattle.bz_tree.specs.Boxes.{Box, IsRootBox}
+use Rattle.bz_cut.specs.Cuts.{IsValid}
+use Rattle.bz_tree.specs.Leaves.{LeafHolds}
+use Rattle.bz_pass.specs.declared.records.Certificate.{Certificate}
+use Rattle.bz_cut.specs.declared.Cut.{Cut}
+use Rattle.bz_tree.specs.declared.Leaf.{Leaf}
+
+-- the eta of a block
+abbrev pub eta_of : Master → ℕ → ℤ
+eta_of master b = coordinate master.eta (b - 1)
+
+-- the numbers of a list together
+abbrev pub total : List ℤ → ℤ
+total [] = pos 0
+total (x ∷ xs) = x +ℤ total xs
+
+-- the lists of the parts' point fit the model's parts, and the denominators are positive; nothing is said of the etas
+pub record HasPointShape (m : Model) (part : List ℕ) (parts : Parts) : Type 0 where
+  pub den : pos 0 <ℤ parts.master.den
+  pub x : length parts.master.x ≡ width_of part 0
+  pub blocks : length parts.blocks ≡ blocks_of part
+  pub each : AllByRecursion
+      (λ e. (pos 0 <ℤ e.1.times) × (length e.1.y ≡ width_of part e.0))
+      (enumerate_from 1 parts.blocks)
+
+-- the lists fit the model's parts, and the denominators are positive
+pub record HasShape (m : Model) (part : List ℕ) (parts : Parts) : Type 0 where
+  pub den : pos 0 <ℤ parts.master.den
+  pub x : length parts.master.x ≡ width_of part 0
+  pub eta : length parts.master.eta ≡ blocks_of part
+  pub blocks : length parts.blocks ≡ blocks_of part
+  pub each : AllByRecursion
+      (λ e. (pos 0 <ℤ e.1.times) × (length e.1.y ≡ width_of part e.0))
+      (enumerate_from 1 parts.blocks)
+
+-- an inequality of the master holds at its point x / den
+abbrev pub HoldsInMaster : Master → Ineq → Type 0
+HoldsInMaster master i = dot i.own (coordinate master.x) ≤ℤ (i.rhs *ℤ master.den)
+
+-- an integer column's coordinate is whole and within its ends of the box
+pub record IntegerHolds (part : List ℕ) (box : Box) (master : Master) (e : ℕ × (ℕ × Column)) : Type 0 where
+  pub whole : IsWhole (coordinate master.x (position_of part e.1.0)) master.den
+  pub at_least : (coordinate box.lower e.0 *ℤ master.den) ≤ℤ coordinate master.x (position_of part e.1.0)
+  pub at_most : coordinate master.x (position_of part e.1.0) ≤ℤ (coordinate box.upper e.0 *ℤ master.den)
+
+-- an inequality of a block holds at x / den with y / (den times)
+abbrev pub HoldsInBlock : Master → BlockPart → Ineq → Type 0
+HoldsInBlock master block i =
+    ((block.times *ℤ dot i.master (coordinate master.x)) +ℤ dot i.own (coordinate block.y))
+    ≤ℤ (i.rhs *ℤ (master.den *ℤ block.times))
+
+-- the block's inequalities hold, and its inner cost is at most its eta
+pub record BlockHolds (m : Model) (part : List ℕ) (master : Master) (b : ℕ) (block : BlockPart) : Type 0 where
+  pub rows : AllByRecursion (HoldsInBlock master block) (inequalities_of m part b)
+  pub cost : dot (terms_in part b (inner_cost m)) (coordinate block.y) ≤ℤ (eta_of master b *ℤ block.times)
+
+-- the point p / q of the model is the one of the parts: x / den in the master and y / (den times) in each block
+pub record IsPointOf (m : Model) (part : List ℕ) (parts : Parts) (p : List ℤ) (q : ℤ) : Type 0 where
+  pub positive : pos 0 <ℤ q
+  pub numbers : length p ≡ length m.columns
+  pub master : (i : ℕ) → i < width_of part 0 →
+      coordinate p (column_at part 0 i) *ℤ parts.master.den ≡ coordinate parts.master.x i *ℤ q
+  pub blocks : AllByRecursion
+      (λ e. (i : ℕ) → i < width_of part e.0 →
+      coordinate p (column_at part e.0 i) *ℤ (parts.master.den *ℤ e.1.times) ≡ coordinate e.1.y i *ℤ q)
+      (enumerate_from 1 parts.blocks)
