@@ -1,9 +1,4 @@
-pub mod Checks
-pub mod Cuts
+pub mod CheckTests
 pub mod Fits
-pub mod Integers
-pub mod Leaves
 pub mod Passing
-pub mod Sides
-pub mod Stated
-pub mod Values
+pub mod Sums

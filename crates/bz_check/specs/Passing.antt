@@ -1,20 +1,20 @@
--- The whole check of a certificate.
-use Rattle.std.specs.Prelude.{ℕ, List}
-use Rattle.std.specs.List.{AllByRecursion}
+-- What it is for a certificate to pass, by its verdict.
+use Rattle.std.specs.Prelude.{ℕ, ℤ, List, Option, Some, None}
 use Rattle.bz_model.specs.declared.Model.{Model}
-use Rattle.bz_pass.specs.declared.Certificate.{Certificate}
-use Rattle.bz_check.specs.declared.ends.Ends.{Ends}
-use Rattle.bz_check.specs.Cuts.{ShowsCut}
-use Rattle.bz_check.specs.Leaves.{ShowsLeaf}
-use Rattle.bz_check.specs.Values.{ShowsPoint, ValueHolds}
+use Rattle.bz_model.specs.declared.Parts.{Parts}
+use Rattle.bz_pass.specs.Verdicts.{PassesInfeasible, PassesOptimal, PassesUnbounded}
+use Rattle.bz_cert.specs.declared.Certificate.{Certificate}
+use Rattle.bz_cert.specs.declared.Verdict.{Verdict}
+use Rattle.bz_cert.specs.declared.Verdict.TheVariants.{Optimal, Infeasible, Unbounded}
 
--- the cuts are valid and the leaf bounds the value, and no sum or product is wide
-pub record ShowsBound (m : Model) (part : List ℕ) (ends : List Ends) (c : Certificate) : Type 0 where
-  pub cuts : AllByRecursion (ShowsCut m part) c.cuts
-  pub leaf : ShowsLeaf m part ends c.cuts c.value c.parts.master.den c.tree
+-- the certificate passes with these parts as its verdict says
+abbrev pub PassesAs : Model → List ℕ → Certificate → Verdict → Option Parts → Type 0
+PassesAs m part c Optimal (Some parts) = PassesOptimal m part parts c.value c.cuts c.tree
+PassesAs m part c Optimal None = ⊥
+PassesAs m part c Infeasible parts = PassesInfeasible m part c.cuts c.tree
+PassesAs m part c Unbounded (Some parts) = PassesUnbounded m part parts c.ray
+PassesAs m part c Unbounded None = ⊥
 
--- all that the check tests past the shape, over the ends of the box of the whole model
-pub record ShowsPassing (m : Model) (part : List ℕ) (ends : List Ends) (c : Certificate) : Type 0 where
-  pub point : ShowsPoint m part ends c.parts
-  pub value : ValueHolds m part c.parts.master c.value
-  pub bound : ShowsBound m part ends c
+-- the certificate passes
+pub record Passes (m : Model) (part : List ℕ) (c : Certificate) : Type 0 where
+  pub as_its_verdict : PassesAs m part c c.verdict c.parts

@@ -1,2 +1,5 @@
+pub mod CutTests
 pub mod Cuts
+pub mod Fits
 pub mod Rows
+pub mod Tests

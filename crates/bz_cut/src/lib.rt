@@ -3,6 +3,8 @@
 //! This crate knows no text and no search.
 #![tactic(auto)]
 
+mod faults;
 mod records;
 
+pub use faults::CutFault;
 pub use records::Cut;

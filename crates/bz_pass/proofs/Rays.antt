@@ -17,7 +17,7 @@ use Rattle.bz_model.specs.Parting.{blocks_of, integers_of}
 use Rattle.bz_model.specs.Points.{coordinate, objective, IsBetter, IsFeasible, IsUnbounded, IsWhole, RowHolds, ColumnHolds}
 use Rattle.bz_model.specs.Strict.{HasItsColumns}
 use Rattle.bz_model.proofs.MeetingParts.{all_both, all_then, numbers_within}
-use Rattle.bz_pass.specs.PartPoints.{IntegerHolds}
+use Rattle.bz_pass.specs.PartPoints.{IntegerHolds, IsPointOf}
 use Rattle.bz_pass.specs.Laws.{IsDecomposed}
 use Rattle.bz_pass.proofs.Numbered.{list_of, length-list_of, coordinate-list_of}
 use Rattle.bz_pass.proofs.Optimality.{either}
@@ -166,5 +166,10 @@ without_etas_feasible m part parts ray s = record {
 pub ray_unbounded : (m : Model) (part : List ℕ) (parts : Parts) (ray : List ℤ) → IsDecomposed m part → PassesUnbounded m part parts ray → IsUnbounded m
 ray_unbounded m part parts ray d s n =
     let kept = without_etas_feasible m part parts ray s in
-    let at = some_point m part (without_etas part parts) d kept.shape in
+    let at = some_point m part (without_etas part parts) d (record { den = s.shape.den; x = s.shape.x; blocks = s.shape.blocks; each = s.shape.each }) in
     better_point m at.0 ray at.1 n d.columns (parts_are_feasible m part (without_etas part parts) at.0 at.1 d kept at.2) s.falls
+
+-- each point of the parts of a passing certificate is feasible, whatever their etas are
+pub ray_point_feasible : (m : Model) (part : List ℕ) (parts : Parts) (ray p : List ℤ) (q : ℤ) → IsDecomposed m part → PassesUnbounded m part parts ray → IsPointOf m part parts p q → IsFeasible m p q
+ray_point_feasible m part parts ray p q d s r = parts_are_feasible m part (without_etas part parts) p q d (without_etas_feasible m part parts ray s)
+    (record { positive = r.positive; numbers = r.numbers; master = r.master; blocks = r.blocks })

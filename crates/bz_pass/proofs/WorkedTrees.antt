@@ -3,7 +3,8 @@
 --     unbounded: the same where -y is minimised: from x = 1, y = 0 along y
 --     infeasible: 2 x = 1 where x is an integer from 0 to 1, in the master. The tree splits x at 0 and 1, and both leaves are empty
 use Rattle.std.specs.Prelude.{ℕ, zero, suc, ℤ, pos, negsuc, true, false, List, [], ◌∷◌, Some, None, ◌<◌, ◌≤◌, ◌≡◌}
-use Rattle.std.proofs.Common.{refl, arith, inl, inr}
+use Rattle.std.specs.Option.{ForSome}
+use Rattle.std.proofs.Common.{refl, subst, arith, inl, inr}
 use Rattle.std.proofs.lemmas.Int.{ints}
 use Rattle.bz_algebra.specs.Fractions.{whole}
 use Rattle.bz_algebra.specs.Numbers.{IsNarrow}
@@ -28,10 +29,10 @@ use Rattle.bz_tree.specs.Trees.{Tree, IsSplitOf, with_lower, with_upper}
 use Rattle.bz_pass.proofs.Judging.{tree_optimal, tree_refutes}
 use Rattle.bz_pass.proofs.Rays.{ray_unbounded}
 
-some_narrow : (a : ℤ) → IsNarrow a → ForSome (Some a) IsNarrow
+pub some_narrow : (a : ℤ) → IsNarrow a → ForSome (Some a) IsNarrow
 some_narrow a h x e = let g : a ≡ x = cc in subst (λ (t : ℤ). IsNarrow t) g h
 
-none_narrow : ForSome None IsNarrow
+pub none_narrow : ForSome None IsNarrow
 none_narrow x e = absurd cc
 
 -- ---- the models

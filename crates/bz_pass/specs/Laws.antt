@@ -91,3 +91,9 @@ abbrev pub PassingIsUnbounded : Type 0
 PassingIsUnbounded =
     (m : Model) (part : List ℕ) (parts : Parts) (ray : List ℤ) →
     IsDecomposed m part → PassesUnbounded m part parts ray → IsUnbounded m
+
+-- Each point of the parts of such a certificate is feasible, whatever their etas are.
+abbrev pub PointsOfRaysAreFeasible : Type 0
+PointsOfRaysAreFeasible =
+    (m : Model) (part : List ℕ) (parts : Parts) (ray p : List ℤ) (q : ℤ) →
+    IsDecomposed m part → PassesUnbounded m part parts ray → IsPointOf m part parts p q → IsFeasible m p q

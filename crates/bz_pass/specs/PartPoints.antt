@@ -15,7 +15,6 @@ use Rattle.bz_model.specs.Points.{coordinate, IsWhole}
 use Rattle.bz_tree.specs.Boxes.{Box, IsRootBox}
 use Rattle.bz_cut.specs.Cuts.{IsValid}
 use Rattle.bz_tree.specs.Leaves.{LeafHolds}
-use Rattle.bz_pass.specs.declared.records.Certificate.{Certificate}
 use Rattle.bz_cut.specs.declared.Cut.{Cut}
 use Rattle.bz_tree.specs.declared.Leaf.{Leaf}
 

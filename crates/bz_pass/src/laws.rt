@@ -1,5 +1,5 @@
 //! What is proved of passing certificates of the three verdicts.
-ghost use Rattle.bz_pass.specs.Laws.{LeavesBoundBoxes, LeavesCoverBoxes, PartsHaveAPoint, PassingIsInfeasible, PassingIsOptimal, PassingIsUnbounded, RootHasAllPoints, TreesBoundCosts, ValidCutsHold};
+ghost use Rattle.bz_pass.specs.Laws.{LeavesBoundBoxes, LeavesCoverBoxes, PartsHaveAPoint, PassingIsInfeasible, PassingIsOptimal, PassingIsUnbounded, PointsOfRaysAreFeasible, RootHasAllPoints, TreesBoundCosts, ValidCutsHold};
 
 /// Each point of the parts of a passing certificate of an optimum is optimal in the model itself, which knows no parts,
 /// and the certificate states its objective.
@@ -15,6 +15,11 @@ pub fn passing_is_infeasible()
 /// A model with a feasible point and a ray along which the inner cost falls without end is unbounded.
 pub fn passing_is_unbounded()
     ensures { PassingIsUnbounded }
+{}
+
+/// Each point of the parts of such a certificate is feasible.
+pub fn points_of_rays_are_feasible()
+    ensures { PointsOfRaysAreFeasible }
 {}
 
 /// Parts with the shape of the model's are those of some point.

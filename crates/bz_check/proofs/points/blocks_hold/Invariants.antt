@@ -1,9 +1,0 @@
--- All that is left passes exactly where all pass.
-use Rattle.std.proofs.Common.{drop}
-use Rattle.std.specs.List.{enumerate_from}
-use Rattle.bz_check.specs.Checks.{ShowsBlock}
-use Rattle.bz_check.proofs.Steps.{Remains}
-use Rattle.bz_check.proofs.points.blocks_hold.Given as goal
-
-abbrev pub invariant-loop-place : goal.invariant-loop-place
-invariant-loop-place l = Remains (λ e. ShowsBlock l.split.model l.split.part l.master e.0 e.1) (drop l.place (enumerate_from 1 l.blocks)) ((enumerate_from 1 l.blocks))

@@ -1,0 +1,29 @@
+//! Why a certificate is refused.
+
+/// Why a certificate is refused: the first test that fails, in the order of these kinds but for `Wide`, which stands
+/// where its sum stands.
+#[derive(Clone, Copy, Debug, PartialEq, Eq)]
+pub enum CheckFault {
+    /// A list doesn't fit the split, or a denominator isn't positive.
+    Shape,
+    /// An inequality of a part, by its place, doesn't hold at the point. In part 0 the places of the box's sides come
+    /// behind the inequalities: the upper side and then the lower one of each integer column. Its upper side names an
+    /// integer column that isn't whole.
+    Point { part: u32, at: u32 },
+    /// A block's inner cost, counted from 1, is above its eta.
+    Cost { block: u32 },
+    /// The value isn't the master's inner cost with the etas.
+    Value,
+    /// The direction leaves a row, a bound or an integer column, or the inner cost doesn't fall along it.
+    Ray,
+    /// A cut, counted from 0, isn't valid.
+    Cut { i: u32 },
+    /// A node of the tree, counted from 0, is no split of an integer column into two sides that meet.
+    Cover { node: u32 },
+    /// A leaf, by its node, doesn't hold in its box or bounds too little.
+    Leaf { node: u32 },
+    /// A sum or a product is wide: which kind of sum, and where.
+    Wide { list: u32, at: u32 },
+    /// There is no memory.
+    OutOfMemory,
+}
