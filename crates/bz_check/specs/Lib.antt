@@ -1,4 +1,6 @@
+pub mod BlockShapes
 pub mod CheckTests
 pub mod Fits
+pub mod LeftSides
 pub mod Passing
 pub mod Sums

@@ -2,5 +2,7 @@
 #![tactic(auto)]
 
 mod faults;
+mod numbers;
+mod points;
 
 pub use faults::CheckFault;

@@ -1,0 +1,95 @@
+-- Loops over tests: what is left to test stands for the whole.
+use Rattle.std.specs.Prelude.{ℕ, zero, suc, ◌≡◌, ◌+◌, ◌<◌, ◌≤◌, List, [], ◌∷◌, ◌++◌, length, drop, Result, Ok, Err}
+use Rattle.std.specs.List.{AllByRecursion, enumerate_from}
+use Rattle.std.specs.Result.{IsErrAnd}
+use Rattle.std.proofs.Common.{refl, sym, ◌∙◌, ap, subst, get_or, arith}
+use Rattle.bz_model.proofs.Sparse.{left_at, none_left}
+use Rattle.bz_cut.specs.Tests.{Test, AllHold, IsFirstFault, Judges, each_of, each_below}
+use Rattle.bz_cut.proofs.TestLemmas.{all_joined, fault_in_front, fault_behind}
+
+-- where the rest holds the whole does, and a first fault of the rest is that of the whole
+pub record Reduces {F : Type 0} (rest whole : List (Test F)) : Type 0 where
+  pub hold : AllHold rest → AllHold whole
+  pub fault : (f : F) → IsFirstFault rest f → IsFirstFault whole f
+
+pub reduces_start : {F : Type 0} (whole : List (Test F)) → Reduces whole whole
+reduces_start whole = record { hold = λ h. h; fault = λ f h. h }
+
+-- tests in front that hold
+pub reduces_past : {F : Type 0} (front rest whole : List (Test F)) → AllHold front → Reduces (front ++ rest) whole → Reduces rest whole
+reduces_past front rest whole h r = record {
+  hold = λ g. r.hold (all_joined front rest h g);
+  fault = λ f g. r.fault f (fault_behind front rest f h g);
+}
+
+-- a fault in front
+pub reduces_stop : {F : Type 0} (front rest whole : List (Test F)) (f : F) → IsFirstFault front f → Reduces (front ++ rest) whole → IsFirstFault whole f
+reduces_stop front rest whole f h r = r.fault f (fault_in_front front rest f h)
+
+-- a fault that is passed on
+pub passed_on : {F T : Type 0} (whole : List (Test F)) (f : F) (result : Result T F) → IsErrAnd result (λ g. g ≡ f) → IsFirstFault whole f → Judges whole result
+passed_on whole f (Ok x) told h = absurd told
+passed_on whole f (Err g) told h = rw told h
+
+-- tests that hold, and then tests that are judged
+pub judges_behind : {F T : Type 0} (front rest : List (Test F)) (result : Result T F) → AllHold front → Judges rest result → Judges (front ++ rest) result
+judges_behind front rest (Ok x) h g = all_joined front rest h g
+judges_behind front rest (Err f) h g = fault_behind front rest f h g
+
+-- ---- the tests of each item
+pub each_next : {F X : Type 0} (tests : X → List (Test F)) (xs : List X) (i : ℕ) (d : X) → i < length xs → each_of tests (drop i xs) ≡ tests (get_or xs i d) ++ each_of tests (drop (i + 1) xs)
+each_next tests xs i d l = ap (each_of tests) (left_at xs i d l)
+
+pub items_next : {F X : Type 0} (tests : X → List (Test F)) (xs : List X) (i : ℕ) (d : X) (whole : List (Test F)) → i < length xs → AllHold (tests (get_or xs i d)) → Reduces (each_of tests (drop i xs)) whole → Reduces (each_of tests (drop (i + 1) xs)) whole
+items_next tests xs i d whole l h r =
+    reduces_past (tests (get_or xs i d)) (each_of tests (drop (i + 1) xs)) whole h (rw (each_next tests xs i d l) at r)
+
+pub items_stop : {F X : Type 0} (tests : X → List (Test F)) (xs : List X) (i : ℕ) (d : X) (whole : List (Test F)) (f : F) → i < length xs → IsFirstFault (tests (get_or xs i d)) f → Reduces (each_of tests (drop i xs)) whole → IsFirstFault whole f
+items_stop tests xs i d whole f l h r =
+    reduces_stop (tests (get_or xs i d)) (each_of tests (drop (i + 1) xs)) whole f h (rw (each_next tests xs i d l) at r)
+
+pub items_end : {F X : Type 0} (tests : X → List (Test F)) (xs : List X) (i : ℕ) (whole : List (Test F)) → length xs ≤ i → Reduces (each_of tests (drop i xs)) whole → AllHold whole
+items_end tests xs i whole l r = r.hold (let none : each_of tests (drop i xs) ≡ [] = ap (each_of tests) (none_left xs i l) in rw none tt)
+
+-- ---- the same of the items with their numbers
+pub length-numbered : {X : Type 0} (n : ℕ) (xs : List X) → length (enumerate_from n xs) ≡ length xs
+length-numbered n [] = refl
+length-numbered n (x ∷ xs) = ap suc (length-numbered (n + 1) xs)
+
+pub numbered_at : {X : Type 0} (n : ℕ) (xs : List X) (i k : ℕ) (d : X) → i < length xs → get_or (enumerate_from n xs) i (k, d) ≡ (n + i, get_or xs i d)
+numbered_at n [] i k d l = absurd (omega arith)
+numbered_at n (x ∷ xs) zero k d l = let e : n ≡ n + 0 = omega arith in ap (λ (j : ℕ). (j, x)) e
+numbered_at n (x ∷ xs) (suc i) k d l =
+    let e : n + 1 + i ≡ n + suc i = omega arith in
+    numbered_at (n + 1) xs i k d (omega arith) ∙ ap (λ (j : ℕ). (j, get_or xs i d)) e
+
+-- the item at a place has its number, and its tests are the next
+numbered_is : {F X : Type 0} (tests : ℕ × X → List (Test F)) (n : ℕ) (xs : List X) (i k : ℕ) (x : X) → i < length xs → k ≡ n + i → x ≡ get_or xs i x → tests (get_or (enumerate_from n xs) i (0, x)) ≡ tests (k, x)
+numbered_is tests n xs i k x l e s =
+    let item : (n + i, get_or xs i x) ≡ (k, x) = rw (← e, ← s) refl in
+    ap tests (numbered_at n xs i 0 x l ∙ item)
+
+-- after an item whose tests hold
+pub numbered_next : {F X : Type 0} (tests : ℕ × X → List (Test F)) (n : ℕ) (xs : List X) (i k : ℕ) (x : X) (whole : List (Test F)) → i < length xs → k ≡ n + i → x ≡ get_or xs i x → AllHold (tests (k, x)) → Reduces (each_of tests (drop i (enumerate_from n xs))) whole → Reduces (each_of tests (drop (i + 1) (enumerate_from n xs))) whole
+numbered_next tests n xs i k x whole l e s h r =
+    items_next tests (enumerate_from n xs) i (0, x) whole (rw (length-numbered n xs) l) (rw (numbered_is tests n xs i k x l e s) h) r
+
+-- at an item with a fault
+pub numbered_stop : {F X T : Type 0} (tests : ℕ × X → List (Test F)) (n : ℕ) (xs : List X) (i k : ℕ) (x : X) (whole : List (Test F)) (f : F) (result : Result T F) → IsErrAnd result (λ g. g ≡ f) → i < length xs → k ≡ n + i → x ≡ get_or xs i x → IsFirstFault (tests (k, x)) f → Reduces (each_of tests (drop i (enumerate_from n xs))) whole → Judges whole result
+numbered_stop tests n xs i k x whole f result told l e s h r =
+    passed_on whole f result told (items_stop tests (enumerate_from n xs) i (0, x) whole f (rw (length-numbered n xs) l) (rw (numbered_is tests n xs i k x l e s) h) r)
+
+-- after all items
+pub numbered_end : {F X : Type 0} (tests : ℕ × X → List (Test F)) (n : ℕ) (xs : List X) (i : ℕ) (whole : List (Test F)) → length xs ≤ i → Reduces (each_of tests (drop i (enumerate_from n xs))) whole → AllHold whole
+numbered_end tests n xs i whole l r = items_end tests (enumerate_from n xs) i whole (rw (length-numbered n xs) l) r
+
+-- ---- facts of all items with their numbers
+all_at : {X : Type 0} (P : X → Type 0) (xs : List X) (i : ℕ) (d : X) → AllByRecursion P xs → i < length xs → P (get_or xs i d)
+all_at P [] i d h l = absurd (omega arith)
+all_at P (x ∷ xs) zero d h l = h.0
+all_at P (x ∷ xs) (suc i) d h l = all_at P xs i d h.1 (omega arith)
+
+pub numbered_all : {X : Type 0} (P : ℕ × X → Type 0) (n : ℕ) (xs : List X) (i k : ℕ) (x : X) → i < length xs → k ≡ n + i → x ≡ get_or xs i x → AllByRecursion P (enumerate_from n xs) → P (k, x)
+numbered_all P n xs i k x l e s h =
+    let item : (n + i, get_or xs i x) ≡ (k, x) = rw (← e, ← s) refl in
+    subst P (numbered_at n xs i 0 x l ∙ item) (all_at P (enumerate_from n xs) i (0, x) h (rw (length-numbered n xs) l))

@@ -1,0 +1,17 @@
+use Rattle.std.proofs.Common.{rules, ◌≡◌, ℤ, pos, List, [], ◌∷◌}
+use Rattle.bz_algebra.specs.Sums.{dot}
+use Rattle.bz_num.specs.Fold.{IsNarrowSum}
+use Rattle.bz_model.specs.Points.{coordinate}
+use Rattle.bz_cut.specs.Tests.{Test, test}
+use Rattle.bz_check.specs.declared.faults.CheckFault.{CheckFault}
+use Rattle.bz_check.specs.Sums.{row_pairs}
+use Rattle.bz_check.proofs.Reducing.{judges_behind}
+use Rattle.bz_check.proofs.points.left_side.Goals as goal
+
+pub returns-clause-judges : goal.returns-clause-judges
+returns-clause-judges c =
+    let front : List (Test CheckFault) = test c.args.wide (IsNarrowSum (row_pairs c.args.row.now.master c.args.master.now.x)) ∷ test c.args.wide (IsNarrowSum (row_pairs c.args.row.now.own c.args.block.now.y)) ∷ [] in
+    let rest : List (Test CheckFault) = test c.args.wide (IsNarrowSum ((c.args.block.now.times, dot c.args.row.now.master (coordinate c.args.master.now.x)) ∷ (pos 1, dot c.args.row.now.own (coordinate c.args.block.now.y)) ∷ [])) ∷ [] in
+    let first : c.in_ok-in_master.in_master ≡ dot c.args.row.now.master (coordinate c.args.master.now.x) = search rules in
+    let second : c.in_ok-in_block.in_block ≡ dot c.args.row.now.own (coordinate c.args.block.now.y) = search rules in
+    judges_behind {F = CheckFault} {T = ℤ} front rest c.joined.result (search rules) (rw (← first, ← second) c.joined.ensures.judges)

@@ -1,0 +1,132 @@
+//! Whether the inequalities of the master and of the blocks hold at a certificate's point.
+ghost use Rattle.std.specs.Prelude.{◌≡◌, ◌<◌, ◌≤◌, ◌^◌, pos, ◌+ℤ◌, ◌*ℤ◌, [], ◌∷◌, IfOk, length};
+ghost use Rattle.std.specs.List.{AllByRecursion, enumerate_from};
+ghost use Rattle.bz_algebra.specs.Sums.{AllBelow};
+ghost use Rattle.bz_num.specs.Fold.{IsNarrowSum};
+ghost use Rattle.bz_model.specs.Parting.{blocks_of, inequalities_of, width_of};
+ghost use Rattle.bz_cut.specs.Tests.{Judges, each_of, test};
+ghost use Rattle.bz_check.specs.CheckTests.{block_tests, in_block_tests, in_master_tests};
+ghost use Rattle.bz_check.specs.BlockShapes.{HasBlockShape};
+ghost use Rattle.bz_check.specs.LeftSides.{FitsLengths, left_side_of, left_side_tests};
+
+use crate::faults::CheckFault;
+use crate::numbers::{product, row_sum, sum_of};
+use bz_model::{BlockPart, Ineq, Master, Split};
+
+/// Whether inequality `n` holds at the master's point.
+fn judge_in_master(master: &Master, n: u32, row: &Ineq) -> Result<(), CheckFault>
+    requires { AllBelow (length master.now.x) row.now.own }
+    ensures { Judges (in_master_tests master.now (n, row.now)) result }
+{
+    let wide = CheckFault::Wide { list: 3, at: n };
+    let sum = row_sum(&row.own, master.x.as_slice(), wide)?;
+    let side = product(row.rhs, master.den, wide)?;
+    if sum > side {
+        return Err(CheckFault::Point { part: 0, at: n });
+    }
+    Ok(())
+}
+
+/// Whether all inequalities hold at the master's point.
+fn judge_master_rows(master: &Master, rows: &[Ineq]) -> Result<(), CheckFault>
+    requires few { length rows.now < 2 ^ 32 }
+    requires within { AllByRecursion (λ i. AllBelow (length master.now.x) i.own) rows.now }
+    ensures { Judges (each_of (in_master_tests master.now) (enumerate_from 0 rows.now)) result }
+{
+    for (n, row) in rows.iter().enumerate() {
+        judge_in_master(master, n as u32, row)?;
+    }
+    Ok(())
+}
+
+/// `times` times the one number and the other one together, or the fault where that is wide.
+fn joined(times: i128, a: i128, b: i128, wide: CheckFault) -> Result<i128, CheckFault>
+    ensures judges { Judges (test wide (IsNarrowSum ((times, a) ∷ (pos 1, b) ∷ [])) ∷ []) result }
+    ensures value { IfOk result (λ sum. sum ≡ (times *ℤ a) +ℤ b) }
+{
+    sum_of(&[(times, a), (1, b)], wide)
+}
+
+/// The left side of a block's inequality at the point, times the master's denominator and `times`; or the fault where
+/// a sum is wide.
+fn left_side(
+    master: &Master,
+    block: &BlockPart,
+    row: &Ineq,
+    wide: CheckFault,
+) -> Result<i128, CheckFault>
+    requires { FitsLengths (length master.now.x) (length block.now.y) row.now }
+    ensures judges { Judges (left_side_tests wide master.now block.now row.now) result }
+    ensures value { IfOk result (λ sum. sum ≡ left_side_of master.now block.now row.now) }
+{
+    let in_master = row_sum(&row.master, master.x.as_slice(), wide)?;
+    let in_block = row_sum(&row.own, block.y.as_slice(), wide)?;
+    joined(block.times, in_master, in_block, wide)
+}
+
+/// Whether inequality `n` of block `b` holds, where `den` is the block's denominator.
+fn judge_in_block(
+    master: &Master,
+    b: u32,
+    block: &BlockPart,
+    den: i128,
+    n: u32,
+    row: &Ineq,
+) -> Result<(), CheckFault>
+    requires fits { FitsLengths (length master.now.x) (length block.now.y) row.now }
+    requires den { den ≡ master.now.den *ℤ block.now.times }
+    ensures { Judges (in_block_tests master.now b block.now (n, row.now)) result }
+{
+    let wide = CheckFault::Wide { list: 5, at: n };
+    let sum = left_side(master, block, row, wide)?;
+    let side = product(row.rhs, den, wide)?;
+    if sum > side {
+        return Err(CheckFault::Point { part: b, at: n });
+    }
+    Ok(())
+}
+
+/// Whether all inequalities of block `b` hold, where `den` is the block's denominator.
+fn judge_block_rows(
+    master: &Master,
+    b: u32,
+    block: &BlockPart,
+    den: i128,
+    rows: &[Ineq],
+) -> Result<(), CheckFault>
+    requires few { length rows.now < 2 ^ 32 }
+    requires fits { AllByRecursion (FitsLengths (length master.now.x) (length block.now.y)) rows.now }
+    requires den { den ≡ master.now.den *ℤ block.now.times }
+    ensures { Judges (each_of (in_block_tests master.now b block.now) (enumerate_from 0 rows.now)) result }
+{
+    for (n, row) in rows.iter().enumerate() {
+        judge_in_block(master, b, block, den, n as u32, row)?;
+    }
+    Ok(())
+}
+
+/// Whether block `b` holds at the point.
+fn judge_block(split: &Split, master: &Master, b: u32, block: &BlockPart) -> Result<(), CheckFault>
+    requires block { b ≤ blocks_of split.now.part }
+    requires x { length master.now.x ≡ width_of split.now.part 0 }
+    requires y { length block.now.y ≡ width_of split.now.part b }
+    ensures { Judges (block_tests split.now.model split.now.part master.now (b, block.now)) result }
+{
+    let den = product(master.den, block.times, CheckFault::Wide { list: 4, at: b })?;
+    judge_block_rows(master, b, block, den, split.inequalities(b))
+}
+
+/// Whether all blocks hold at the point.
+fn judge_blocks(split: &Split, master: &Master, blocks: &[BlockPart]) -> Result<(), CheckFault>
+    requires count { length blocks.now ≡ blocks_of split.now.part }
+    requires few { length blocks.now ≤ 256 }
+    requires x { length master.now.x ≡ width_of split.now.part 0 }
+    requires shapes { AllByRecursion (HasBlockShape split.now.part) (enumerate_from 1 blocks.now) }
+    ensures { Judges (each_of (block_tests split.now.model split.now.part master.now) (enumerate_from 1 blocks.now)) result }
+{
+    for (place, block) in blocks.iter().enumerate() {
+        judge_block(split, master, place as u32 + 1, block)?;
+    }
+    Ok(())
+}
+
