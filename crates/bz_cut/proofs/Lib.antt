@@ -1,1 +1,5 @@
+pub mod Costs
+pub mod NarrowSums
+pub mod Steps
+pub mod SumTests
 pub mod TestLemmas

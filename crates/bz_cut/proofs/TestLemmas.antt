@@ -1,7 +1,7 @@
 -- Lists of tests: their ends, their fronts, and the tests of many items.
-use Rattle.std.specs.Prelude.{ℕ, zero, suc, ◌≡◌, ◌<◌, ◌≤◌, ◌⊎◌, List, [], ◌∷◌, ◌++◌}
-use Rattle.std.proofs.Common.{refl, subst, arith, inl, inr}
-use Rattle.bz_cut.specs.Tests.{Test, AllHold, IsFirstFault, answered, each_below, each_of}
+use Rattle.std.specs.Prelude.{ℕ, zero, suc, ◌≡◌, ◌<◌, ◌≤◌, ◌⊎◌, List, [], ◌∷◌, ◌++◌, Result, Ok, Err}
+use Rattle.std.proofs.Common.{subst, arith, inl, inr}
+use Rattle.bz_cut.specs.Tests.{Test, AllHold, IsFirstFault, Judges, answered, each_below, test}
 
 pub all_joined : {F : Type 0} (xs ys : List (Test F)) → AllHold xs → AllHold ys → AllHold (xs ++ ys)
 all_joined [] ys h g = g
@@ -87,3 +87,19 @@ pub answered_fault : {F G : Type 0} (h : F → G) (ts : List (Test F)) (f : F) �
 answered_fault h [] f g = absurd g
 answered_fault h (t ∷ ts) f (inl g) = let e : h t.answer ≡ h f = cc in inl (g.0, e)
 answered_fault h (t ∷ ts) f (inr g) = inr (g.0, answered_fault h ts f g.1)
+
+-- ---- what judges
+-- tests that hold, and behind them tests that are judged
+pub judges_then : {F T : Type 0} (xs ys : List (Test F)) (r : Result T F) → AllHold xs → Judges ys r → Judges (xs ++ ys) r
+judges_then xs ys (Ok t) h j = all_joined xs ys h j
+judges_then xs ys (Err f) h j = fault_behind xs ys f h j
+
+-- one test, said in another way
+pub judges_same : {F T : Type 0} (answer : F) (P Q : Type 0) (r : Result T F) → (P → Q) → (Q → P) → Judges (test answer P ∷ []) r → Judges (test answer Q ∷ []) r
+judges_same answer P Q (Ok t) there back j = (there j.0, tt)
+judges_same answer P Q (Err f) there back (inl j) = inl (λ q. j.0 (back q), j.1)
+judges_same answer P Q (Err f) there back (inr j) = absurd j.1
+
+-- the tests of a number below a bound, behind those of lesser numbers
+pub fault_at : {F : Type 0} (k n : ℕ) (tests : ℕ → List (Test F)) (f : F) → k < n → AllHold (each_below k tests) → IsFirstFault (tests k) f → IsFirstFault (each_below n tests) f
+fault_at k n tests f l h g = fault_below (suc k) n tests f (omega arith) (fault_behind (each_below k tests) (tests k) f h g)

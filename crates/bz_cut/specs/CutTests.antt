@@ -1,5 +1,5 @@
 -- The tests of a cut, in their order: its lists and signs, its factor, and then its equations, one by one.
-use Rattle.std.specs.Prelude.{ℕ, pos, ◌≡◌, ◌*ℤ◌, ◌<◌, ◌≤◌, ◌<ℤ◌, ◌≤ℤ◌, List, [], ◌∷◌, ◌++◌, length}
+use Rattle.std.specs.Prelude.{ℕ, pos, ◌*ℤ◌, ◌<◌, ◌≤◌, ◌<ℤ◌, ◌≤ℤ◌, List, [], ◌∷◌, ◌++◌, length}
 use Rattle.std.proofs.Math.IntN.{neg_ℤ}
 use Rattle.bz_algebra.specs.Numbers.{IsNarrow}
 use Rattle.bz_algebra.specs.Sums.{coef, AllBelow}

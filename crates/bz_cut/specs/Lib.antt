@@ -2,4 +2,5 @@ pub mod CutTests
 pub mod Cuts
 pub mod Fits
 pub mod Rows
+pub mod Sums
 pub mod Tests

@@ -4,7 +4,16 @@
 #![tactic(auto)]
 
 mod faults;
+mod judging;
+mod lists;
 mod records;
+mod sums;
 
 pub use faults::CutFault;
+pub use judging::{
+    judge, judge_at_most, judge_equal, judge_equation, judge_fold, judge_opposite, judge_order,
+    judge_product, judge_sum,
+};
+pub use lists::{all_below, are_multipliers, inner_cost_at, width};
 pub use records::Cut;
+pub use sums::{Terms, column_sum, rhs_sum, row_sum};

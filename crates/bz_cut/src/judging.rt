@@ -1,0 +1,108 @@
+//! Tests of sums, with whatever answers.
+ghost use Rattle.std.specs.Prelude.{◌≡◌, ◌*ℤ◌, ◌≤ℤ◌, ℕ, ℤ, List, [], ◌∷◌, Ok, IfOk, IsTrue};
+ghost use Rattle.std.proofs.Math.IntN.{neg_ℤ};
+ghost use Rattle.bz_algebra.specs.Numbers.{IsNarrow};
+ghost use Rattle.bz_algebra.specs.Sums.{dot};
+ghost use Rattle.bz_num.specs.Fold.{IsNarrowSum, fold_of, pairs_at};
+ghost use Rattle.bz_cut.specs.Tests.{Judges, equation, sum_is, test};
+
+use bz_num::{WideSum, narrow_negation, narrow_product};
+
+/// Nothing where the test holds, else the answer.
+pub fn judge<F: Copy>(holds: bool, answer: F) -> Result<(), F>
+    ensures { Judges (test answer (IsTrue holds) ∷ []) result }
+{
+    if holds { Ok(()) } else { Err(answer) }
+}
+
+/// Tests that the two numbers are equal.
+pub fn judge_equal<F: Copy>(a: i128, b: i128, broken: F) -> Result<(), F>
+    ensures { Judges (test broken (a ≡ b) ∷ []) result }
+{
+    if a == b { Ok(()) } else { Err(broken) }
+}
+
+/// Tests that the first number is at most the second.
+pub fn judge_order<F: Copy>(a: i128, b: i128, broken: F) -> Result<(), F>
+    ensures { Judges (test broken (a ≤ℤ b) ∷ []) result }
+{
+    if a <= b { Ok(()) } else { Err(broken) }
+}
+
+/// The sum of a fold where no place of it is wide, else the answer.
+pub fn judge_fold<F: Copy>(sum: Result<i128, WideSum>, wide: F) -> Result<i128, F>
+    ensures judges { (ps : List (ℤ × ℤ)) → sum ≡ fold_of ps → Judges (test wide (IsNarrowSum ps) ∷ []) result }
+    ensures sum { IfOk result (λ found. sum ≡ Ok found) }
+{
+    match sum {
+        Ok(found) => Ok(found),
+        Err(_) => Err(wide),
+    }
+}
+
+/// The product where it is not wide, else the answer.
+pub fn judge_product<F: Copy>(a: i128, b: i128, wide: F) -> Result<i128, F>
+    ensures judges { Judges (test wide (IsNarrow (a *ℤ b)) ∷ []) result }
+    ensures product { IfOk result (λ product. product ≡ a *ℤ b) }
+{
+    narrow_product(a, b).ok_or(wide)
+}
+
+/// Tests that the sum of a fold is not wide, and is the number.
+pub fn judge_sum<F: Copy>(
+    sum: Result<i128, WideSum>,
+    number: i128,
+    broken: F,
+    wide: F,
+) -> Result<(), F>
+    ensures { (multipliers : List (ℕ × ℤ)) → (f : ℕ → ℤ) → sum ≡ fold_of (pairs_at multipliers f) → Judges (sum_is broken wide multipliers f number) result }
+{
+    let found = judge_fold(sum, wide)?;
+    judge_equal(found, number, broken)
+}
+
+/// Tests that the sum of a fold is not wide, that the product isn't, and that the two are equal.
+pub fn judge_equation<F: Copy>(
+    sum: Result<i128, WideSum>,
+    a: i128,
+    b: i128,
+    broken: F,
+    wide: F,
+) -> Result<(), F>
+    ensures { (multipliers : List (ℕ × ℤ)) → (f : ℕ → ℤ) → sum ≡ fold_of (pairs_at multipliers f) → Judges (equation broken wide multipliers f (a *ℤ b) (a *ℤ b)) result }
+{
+    let found = judge_fold(sum, wide)?;
+    let product = judge_product(a, b, wide)?;
+    judge_equal(found, product, broken)
+}
+
+/// Tests that the sum of a fold is not wide, that the product isn't, and that the sum is the product with the other
+/// sign.
+pub fn judge_opposite<F: Copy>(
+    sum: Result<i128, WideSum>,
+    a: i128,
+    b: i128,
+    broken: F,
+    wide: F,
+) -> Result<(), F>
+    ensures { (multipliers : List (ℕ × ℤ)) → (f : ℕ → ℤ) → sum ≡ fold_of (pairs_at multipliers f) → Judges (equation broken wide multipliers f (a *ℤ b) (neg_ℤ (a *ℤ b))) result }
+{
+    let found = judge_fold(sum, wide)?;
+    let product = judge_product(a, b, wide)?;
+    judge_equal(found, narrow_negation(product), broken)
+}
+
+/// Tests that the sum of a fold is not wide, that the product isn't, and that the sum is at most the product.
+pub fn judge_at_most<F: Copy>(
+    sum: Result<i128, WideSum>,
+    a: i128,
+    b: i128,
+    broken: F,
+    wide: F,
+) -> Result<(), F>
+    ensures { (multipliers : List (ℕ × ℤ)) → (f : ℕ → ℤ) → sum ≡ fold_of (pairs_at multipliers f) → Judges (test wide (IsNarrowSum (pairs_at multipliers f)) ∷ test wide (IsNarrow (a *ℤ b)) ∷ test broken (dot multipliers f ≤ℤ (a *ℤ b)) ∷ []) result }
+{
+    let found = judge_fold(sum, wide)?;
+    let product = judge_product(a, b, wide)?;
+    judge_order(found, product, broken)
+}
