@@ -1,2 +1,2 @@
 pub mod Reducing
-pub mod FoldTests
+pub mod FoundSums

@@ -93,3 +93,25 @@ pub numbered_all : {X : Type 0} (P : ℕ × X → Type 0) (n : ℕ) (xs : List X
 numbered_all P n xs i k x l e s h =
     let item : (n + i, get_or xs i x) ≡ (k, x) = rw (← e, ← s) refl in
     subst P (numbered_at n xs i 0 x l ∙ item) (all_at P (enumerate_from n xs) i (0, x) h (rw (length-numbered n xs) l))
+
+-- facts that are tested one by one: what is left holds exactly where all do
+pub record Remains {X : Type 0} (P : X → Type 0) (rest whole : List X) : Type 0 where
+  pub up : AllByRecursion P rest → AllByRecursion P whole
+  pub down : AllByRecursion P whole → AllByRecursion P rest
+
+pub remains_next : {X : Type 0} (P : ℕ × X → Type 0) (n : ℕ) (xs : List X) (i k : ℕ) (x : X) (whole : List (ℕ × X)) → i < length xs → k ≡ n + i → x ≡ get_or xs i x → P (k, x) → Remains P (drop i (enumerate_from n xs)) whole → Remains P (drop (i + 1) (enumerate_from n xs)) whole
+remains_next P n xs i k x whole l e s p r =
+    let item : (n + i, get_or xs i x) ≡ (k, x) = rw (← e, ← s) refl in
+    let here : get_or (enumerate_from n xs) i (0, x) ≡ (k, x) = numbered_at n xs i 0 x l ∙ item in
+    let left : drop i (enumerate_from n xs) ≡ (k, x) ∷ drop (i + 1) (enumerate_from n xs) = rw here at (left_at (enumerate_from n xs) i (0, x) (rw (length-numbered n xs) l)) in
+    record { up = λ h. r.up (rw left (p, h)); down = λ h. (rw left at (r.down h)).1 }
+
+pub remains_fail : {X : Type 0} (P : ℕ × X → Type 0) (n : ℕ) (xs : List X) (i k : ℕ) (x : X) (whole : List (ℕ × X)) → i < length xs → k ≡ n + i → x ≡ get_or xs i x → (P (k, x) → ⊥) → Remains P (drop i (enumerate_from n xs)) whole → AllByRecursion P whole → ⊥
+remains_fail P n xs i k x whole l e s p r h =
+    let item : (n + i, get_or xs i x) ≡ (k, x) = rw (← e, ← s) refl in
+    let here : get_or (enumerate_from n xs) i (0, x) ≡ (k, x) = numbered_at n xs i 0 x l ∙ item in
+    let left : drop i (enumerate_from n xs) ≡ (k, x) ∷ drop (i + 1) (enumerate_from n xs) = rw here at (left_at (enumerate_from n xs) i (0, x) (rw (length-numbered n xs) l)) in
+    p (rw left at (r.down h)).0
+
+pub remains_end : {X : Type 0} (P : ℕ × X → Type 0) (n : ℕ) (xs : List X) (i : ℕ) (whole : List (ℕ × X)) → length xs ≤ i → Remains P (drop i (enumerate_from n xs)) whole → AllByRecursion P whole
+remains_end P n xs i whole l r = r.up (rw (none_left (enumerate_from n xs) i (rw (length-numbered n xs) l)) tt)

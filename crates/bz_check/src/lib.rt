@@ -4,5 +4,6 @@
 mod faults;
 mod numbers;
 mod points;
+mod shape;
 
 pub use faults::CheckFault;

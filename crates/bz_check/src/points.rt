@@ -10,7 +10,8 @@ ghost use Rattle.bz_check.specs.BlockShapes.{HasBlockShape};
 ghost use Rattle.bz_check.specs.LeftSides.{FitsLengths, left_side_of, left_side_tests};
 
 use crate::faults::CheckFault;
-use crate::numbers::{product, row_sum, sum_of};
+use crate::numbers::{sum_at, sum_of};
+use bz_cut::{judge_at_most, judge_product, row_sum};
 use bz_model::{BlockPart, Ineq, Master, Split};
 
 /// Whether inequality `n` holds at the master's point.
@@ -18,13 +19,10 @@ fn judge_in_master(master: &Master, n: u32, row: &Ineq) -> Result<(), CheckFault
     requires { AllBelow (length master.now.x) row.now.own }
     ensures { Judges (in_master_tests master.now (n, row.now)) result }
 {
+    let sum = row_sum(&row.own, master.x.as_slice());
+    let broken = CheckFault::Point { part: 0, at: n };
     let wide = CheckFault::Wide { list: 3, at: n };
-    let sum = row_sum(&row.own, master.x.as_slice(), wide)?;
-    let side = product(row.rhs, master.den, wide)?;
-    if sum > side {
-        return Err(CheckFault::Point { part: 0, at: n });
-    }
-    Ok(())
+    judge_at_most(sum, row.rhs, master.den, broken, wide)
 }
 
 /// Whether all inequalities hold at the master's point.
@@ -59,8 +57,8 @@ fn left_side(
     ensures judges { Judges (left_side_tests wide master.now block.now row.now) result }
     ensures value { IfOk result (λ sum. sum ≡ left_side_of master.now block.now row.now) }
 {
-    let in_master = row_sum(&row.master, master.x.as_slice(), wide)?;
-    let in_block = row_sum(&row.own, block.y.as_slice(), wide)?;
+    let in_master = sum_at(&row.master, master.x.as_slice(), wide)?;
+    let in_block = sum_at(&row.own, block.y.as_slice(), wide)?;
     joined(block.times, in_master, in_block, wide)
 }
 
@@ -79,7 +77,7 @@ fn judge_in_block(
 {
     let wide = CheckFault::Wide { list: 5, at: n };
     let sum = left_side(master, block, row, wide)?;
-    let side = product(row.rhs, den, wide)?;
+    let side = judge_product(row.rhs, den, wide)?;
     if sum > side {
         return Err(CheckFault::Point { part: b, at: n });
     }
@@ -112,7 +110,7 @@ fn judge_block(split: &Split, master: &Master, b: u32, block: &BlockPart) -> Res
     requires y { length block.now.y ≡ width_of split.now.part b }
     ensures { Judges (block_tests split.now.model split.now.part master.now (b, block.now)) result }
 {
-    let den = product(master.den, block.times, CheckFault::Wide { list: 4, at: b })?;
+    let den = judge_product(master.den, block.times, CheckFault::Wide { list: 4, at: b })?;
     judge_block_rows(master, b, block, den, split.inequalities(b))
 }
 

@@ -1,4 +1,5 @@
-use Rattle.std.proofs.Common.{rules, ◌≡◌, ℤ, pos, List, [], ◌∷◌}
+use Rattle.std.proofs.Common.{rules, ◌≡◌, FitsSigned, to_z-of_z, ℤ, pos, List, [], ◌∷◌}
+use Rattle.std.specs.Int.{w128}
 use Rattle.bz_algebra.specs.Sums.{dot}
 use Rattle.bz_num.specs.Fold.{IsNarrowSum}
 use Rattle.bz_model.specs.Points.{coordinate}
@@ -14,4 +15,7 @@ returns-clause-judges c =
     let rest : List (Test CheckFault) = test c.args.wide (IsNarrowSum ((c.args.block.now.times, dot c.args.row.now.master (coordinate c.args.master.now.x)) ∷ (pos 1, dot c.args.row.now.own (coordinate c.args.block.now.y)) ∷ [])) ∷ [] in
     let first : c.in_ok-in_master.in_master ≡ dot c.args.row.now.master (coordinate c.args.master.now.x) = search rules in
     let second : c.in_ok-in_block.in_block ≡ dot c.args.row.now.own (coordinate c.args.block.now.y) = search rules in
-    judges_behind {F = CheckFault} {T = ℤ} front rest c.joined.result (search rules) (rw (← first, ← second) c.joined.ensures.judges)
+    let fits : FitsSigned w128 c.in_ok-in_master.in_master = search rules in
+    let fits_too : FitsSigned w128 c.in_ok-in_block.in_block = search rules in
+    let fits_times : FitsSigned w128 c.args.block.now.times = search rules in
+    judges_behind {F = CheckFault} {T = ℤ} front rest c.joined.result (search rules) (rw (← first, ← second) (rw (to_z-of_z fits, to_z-of_z fits_too, to_z-of_z fits_times) at c.joined.ensures.judges))
