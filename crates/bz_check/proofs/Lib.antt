@@ -1,2 +1,5 @@
-pub mod Reducing
+pub mod CostSums
 pub mod FoundSums
+pub mod LaterEntries
+pub mod Lowest
+pub mod Reducing

@@ -3,4 +3,5 @@ pub mod CheckTests
 pub mod Fits
 pub mod LeftSides
 pub mod Passing
+pub mod Stated
 pub mod Sums

@@ -1,6 +1,7 @@
 -- The products that the sums of a check add up, in their order.
-use Rattle.std.specs.Prelude.{ℕ, ℤ, pos, negsuc, List, [], ◌∷◌, ◌++◌, map, if◌then◌else◌}
-use Rattle.bz_num.specs.Fold.{pairs_at}
+use Rattle.std.specs.Prelude.{ℕ, ℤ, pos, negsuc, ◌≡◌, List, [], ◌∷◌, ◌++◌, map, Result, Ok, Err, if◌then◌else◌}
+use Rattle.bz_num.specs.declared.WideSum.{WideSum}
+use Rattle.bz_num.specs.Fold.{Taken, fold_from, fold_of, pairs_at}
 use Rattle.bz_model.specs.declared.Master.{Master}
 use Rattle.bz_model.specs.declared.Model.{Model}
 use Rattle.bz_model.specs.Points.{coordinate}
@@ -8,6 +9,11 @@ use Rattle.bz_model.specs.Points.{coordinate}
 -- the products of a row at a point
 abbrev pub row_pairs : List (ℕ × ℤ) → List ℤ → List (ℤ × ℤ)
 row_pairs row x = pairs_at row (coordinate x)
+
+-- what is taken, or the first wide place, is that of every sum that begins with the pairs
+abbrev pub Begins : List (ℤ × ℤ) → Result Taken WideSum → Type 0
+Begins pairs (Ok taken) = (rest : List (ℤ × ℤ)) → fold_of (pairs ++ rest) ≡ fold_from taken.count taken.sum rest
+Begins pairs (Err wide) = (rest : List (ℤ × ℤ)) → fold_of (pairs ++ rest) ≡ Err wide
 
 -- the number as a product
 abbrev pub times_one : ℤ → ℤ × ℤ

@@ -1,9 +1,14 @@
 //! The check of a certificate against a split, and the objective that it states.
 #![tactic(auto)]
 
+mod costs;
 mod faults;
 mod numbers;
+mod objective;
 mod points;
 mod shape;
+mod stated;
 
 pub use faults::CheckFault;
+pub use objective::stated_of;
+pub use stated::Stated;
