@@ -8,6 +8,7 @@ mod objective;
 mod points;
 mod shape;
 mod stated;
+mod value;
 
 pub use faults::CheckFault;
 pub use objective::stated_of;
