@@ -2,4 +2,5 @@ pub mod CostSums
 pub mod FoundSums
 pub mod LaterEntries
 pub mod Lowest
+pub mod RayCosts
 pub mod Reducing

@@ -6,6 +6,7 @@ mod faults;
 mod numbers;
 mod objective;
 mod points;
+mod ray;
 mod shape;
 mod stated;
 mod value;
