@@ -1,4 +1,5 @@
 pub mod Costs
+pub mod CutTold
 pub mod NarrowSums
 pub mod Steps
 pub mod SumTests

@@ -1,7 +1,9 @@
 -- Lists of tests: their ends, their fronts, and the tests of many items.
-use Rattle.std.specs.Prelude.{ℕ, zero, suc, ◌≡◌, ◌<◌, ◌≤◌, ◌⊎◌, List, [], ◌∷◌, ◌++◌, Result, Ok, Err}
-use Rattle.std.proofs.Common.{subst, arith, inl, inr}
-use Rattle.bz_cut.specs.Tests.{Test, AllHold, IsFirstFault, Judges, answered, each_below, test}
+use Rattle.std.specs.Prelude.{ℕ, zero, suc, ◌+◌, ◌≡◌, ◌<◌, ◌≤◌, ◌⊎◌, List, [], ◌∷◌, ◌++◌, Result, Ok, Err, ◌↔◌, IsTrue, is_ok, length, drop, get_or}
+use Rattle.std.specs.List.{enumerate_from}
+use Rattle.std.proofs.Common.{refl, ap, ◌∙◌, subst, arith, inl, inr}
+use Rattle.bz_model.proofs.Sparse.{left_at, none_left}
+use Rattle.bz_cut.specs.Tests.{Test, AllHold, IsFirstFault, Judges, answered, each_below, each_of, test}
 
 pub all_joined : {F : Type 0} (xs ys : List (Test F)) → AllHold xs → AllHold ys → AllHold (xs ++ ys)
 all_joined [] ys h g = g
@@ -103,3 +105,70 @@ judges_same answer P Q (Err f) there back (inr j) = absurd j.1
 -- the tests of a number below a bound, behind those of lesser numbers
 pub fault_at : {F : Type 0} (k n : ℕ) (tests : ℕ → List (Test F)) (f : F) → k < n → AllHold (each_below k tests) → IsFirstFault (tests k) f → IsFirstFault (each_below n tests) f
 fault_at k n tests f l h g = fault_below (suc k) n tests f (omega arith) (fault_behind (each_below k tests) (tests k) f h g)
+
+pub all_at : {F : Type 0} (k : ℕ) (tests : ℕ → List (Test F)) → AllHold (each_below k tests) → AllHold (tests k) → AllHold (each_below (k + 1) tests)
+all_at k tests h g = let e : suc k ≡ k + 1 = omega arith in subst (λ (j : ℕ). AllHold (each_below j tests)) e (all_joined (each_below k tests) (tests k) h g)
+
+-- what a `?` hands on
+pub judges_handed : {F T : Type 0} (xs : List (Test F)) (r : Result T F) (f : F) → r ≡ Err f → IsFirstFault xs f → Judges xs r
+judges_handed xs r f e h = rw e h
+
+-- the answer is none exactly where all tests hold
+pub judged : {F T : Type 0} (xs : List (Test F)) (r : Result T F) → Judges xs r → IsTrue (is_ok r) ↔ AllHold xs
+judged xs (Ok t) h = (λ e. h, λ e. refl)
+judged xs (Err f) h = (λ e. absurd cc, λ a. absurd (none_where_all xs f a h))
+
+-- ---- what a loop over tests has left
+-- the tests behind tell what all tell, those in front hold
+pub record Reduces {F : Type 0} (rest all : List (Test F)) : Type 0 where
+  pub hold : AllHold rest → AllHold all
+  pub fault : (f : F) → IsFirstFault rest f → IsFirstFault all f
+
+pub reduces_start : {F : Type 0} (all : List (Test F)) → Reduces all all
+reduces_start all = record { hold = λ h. h; fault = λ f h. h }
+
+-- tests in front that hold are left behind
+pub reduces_next : {F : Type 0} (xs rest all : List (Test F)) → AllHold xs → Reduces (xs ++ rest) all → Reduces rest all
+reduces_next xs rest all h r = record { hold = λ g. r.hold (all_joined xs rest h g); fault = λ f g. r.fault f (fault_behind xs rest f h g) }
+
+-- a fault of the tests in front
+pub reduces_fault : {F : Type 0} (xs rest all : List (Test F)) (f : F) → IsFirstFault xs f → Reduces (xs ++ rest) all → IsFirstFault all f
+reduces_fault xs rest all f h r = r.fault f (fault_in_front xs rest f h)
+
+-- the tests of the items that are left
+pub each_of_next : {F X : Type 0} (tests : X → List (Test F)) (xs : List X) (i : ℕ) (d : X) → i < length xs → each_of tests (drop i xs) ≡ tests (get_or xs i d) ++ each_of tests (drop (i + 1) xs)
+each_of_next tests xs i d l = ap (each_of tests) (left_at xs i d l)
+
+pub each_of_none : {F X : Type 0} (tests : X → List (Test F)) (xs : List X) (i : ℕ) → length xs ≤ i → each_of tests (drop i xs) ≡ []
+each_of_none tests xs i l = ap (each_of tests) (none_left xs i l)
+
+-- one item more, a fault of an item, and the end
+pub items_next : {F X : Type 0} (tests : X → List (Test F)) (xs : List X) (i : ℕ) (d : X) (all : List (Test F)) → i < length xs → AllHold (tests (get_or xs i d)) → Reduces (each_of tests (drop i xs)) all → Reduces (each_of tests (drop (i + 1) xs)) all
+items_next tests xs i d all l h r = reduces_next (tests (get_or xs i d)) (each_of tests (drop (i + 1) xs)) all h (rw (each_of_next tests xs i d l) at r)
+
+pub items_fault : {F X : Type 0} (tests : X → List (Test F)) (xs : List X) (i : ℕ) (d : X) (all : List (Test F)) (f : F) → i < length xs → IsFirstFault (tests (get_or xs i d)) f → Reduces (each_of tests (drop i xs)) all → IsFirstFault all f
+items_fault tests xs i d all f l h r = reduces_fault (tests (get_or xs i d)) (each_of tests (drop (i + 1) xs)) all f h (rw (each_of_next tests xs i d l) at r)
+
+pub items_end : {F X : Type 0} (tests : X → List (Test F)) (xs : List X) (i : ℕ) (all : List (Test F)) → length xs ≤ i → Reduces (each_of tests (drop i xs)) all → AllHold all
+items_end tests xs i all l r = r.hold (rw (each_of_none tests xs i l) tt)
+
+-- the same of items with their numbers, from n on
+length-numbered : {X : Type 0} (n : ℕ) (xs : List X) → length (enumerate_from n xs) ≡ length xs
+length-numbered n [] = refl
+length-numbered n (x ∷ xs) = ap suc (length-numbered (n + 1) xs)
+
+numbered_at : {X : Type 0} (n : ℕ) (xs : List X) (i k : ℕ) (d : X) → i < length xs → get_or (enumerate_from n xs) i (k, d) ≡ (n + i, get_or xs i d)
+numbered_at n [] i k d l = absurd (omega arith)
+numbered_at n (x ∷ xs) zero k d l = let e : n ≡ n + 0 = omega arith in ap (λ (j : ℕ). (j, x)) e
+numbered_at n (x ∷ xs) (suc i) k d l =
+    let e : n + 1 + i ≡ n + suc i = omega arith in
+    numbered_at (n + 1) xs i k d (omega arith) ∙ ap (λ (j : ℕ). (j, get_or xs i d)) e
+
+pub numbered_next : {F X : Type 0} (tests : ℕ × X → List (Test F)) (n : ℕ) (xs : List X) (i : ℕ) (d : X) (all : List (Test F)) → i < length xs → AllHold (tests (n + i, get_or xs i d)) → Reduces (each_of tests (drop i (enumerate_from n xs))) all → Reduces (each_of tests (drop (i + 1) (enumerate_from n xs))) all
+numbered_next tests n xs i d all l h r = items_next tests (enumerate_from n xs) i (0, d) all (rw (length-numbered n xs) l) (rw (numbered_at n xs i 0 d l) h) r
+
+pub numbered_fault : {F X : Type 0} (tests : ℕ × X → List (Test F)) (n : ℕ) (xs : List X) (i : ℕ) (d : X) (all : List (Test F)) (f : F) → i < length xs → IsFirstFault (tests (n + i, get_or xs i d)) f → Reduces (each_of tests (drop i (enumerate_from n xs))) all → IsFirstFault all f
+numbered_fault tests n xs i d all f l h r = items_fault tests (enumerate_from n xs) i (0, d) all f (rw (length-numbered n xs) l) (rw (numbered_at n xs i 0 d l) h) r
+
+pub numbered_end : {F X : Type 0} (tests : ℕ × X → List (Test F)) (n : ℕ) (xs : List X) (i : ℕ) (all : List (Test F)) → length xs ≤ i → Reduces (each_of tests (drop i (enumerate_from n xs))) all → AllHold all
+numbered_end tests n xs i all l r = items_end tests (enumerate_from n xs) i all (rw (length-numbered n xs) l) r

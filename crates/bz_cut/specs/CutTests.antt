@@ -39,11 +39,14 @@ abbrev pub rhs_tests : Model → List ℕ → Cut → List (Test CutFault)
 rhs_tests m part cut =
     equation Invalid Wide cut.mu (rhs_at (inequalities_of m part cut.block)) (cut.gcd *ℤ cut.beta) (cut.gcd *ℤ cut.beta)
 
--- all tests of a cut
-abbrev pub cut_tests : Model → List ℕ → Cut → List (Test CutFault)
-cut_tests m part cut =
-    form_tests m part cut
-    ++ (test Wide (IsNarrow (cut.gcd *ℤ cut.p0)) ∷ [])
-    ++ each_below (width_of part cut.block) (own_tests m part cut)
+-- the factor, and then the equations
+abbrev pub sum_tests : Model → List ℕ → Cut → List (Test CutFault)
+sum_tests m part cut =
+    test Wide (IsNarrow (cut.gcd *ℤ cut.p0))
+    ∷ each_below (width_of part cut.block) (own_tests m part cut)
     ++ each_below (width_of part 0) (master_tests m part cut)
     ++ rhs_tests m part cut
+
+-- all tests of a cut
+abbrev pub cut_tests : Model → List ℕ → Cut → List (Test CutFault)
+cut_tests m part cut = form_tests m part cut ++ sum_tests m part cut

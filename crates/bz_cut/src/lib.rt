@@ -3,17 +3,21 @@
 //! This crate knows no text and no search.
 #![tactic(auto)]
 
+mod cuts;
 mod faults;
 mod judging;
+mod laws;
 mod lists;
 mod records;
 mod sums;
 
+pub use cuts::{fits_and_valid, judge_cut};
 pub use faults::CutFault;
 pub use judging::{
     judge, judge_at_most, judge_equal, judge_equation, judge_fold, judge_opposite, judge_order,
     judge_product, judge_sum,
 };
+pub use laws::{cut_faults_are_unique, cut_tests_tell};
 pub use lists::{all_below, are_multipliers, inner_cost_at, width};
 pub use records::Cut;
 pub use sums::{Terms, column_sum, rhs_sum, row_sum};
