@@ -1,13 +1,17 @@
 -- The inner cost along a direction, entry by entry.
 use Rattle.std.proofs.Common.{◌≡◌, refl, sym, ◌∙◌, ap, ℕ, zero, suc, ◌+◌, ◌<◌, Bool, true, false, cond, List, [], ◌∷◌, length, get_or, drop, arith, ℤ, ◌+ℤ◌, ◌*ℤ◌, neg_ℤ, Result, Ok, Err}
+use Rattle.std.specs.List.{AllByRecursion}
 use Rattle.std.specs.Result.{IsErrAnd}
 use Rattle.bz_algebra.specs.Numbers.{IsNarrow}
+use Rattle.bz_algebra.specs.Sums.{AllBelow}
 use Rattle.bz_num.specs.declared.WideSum.{WideSum}
 use Rattle.bz_num.specs.Fold.{fold_from, goes_wide}
 use Rattle.bz_num.specs.Row.{IsSparseFrom}
 use Rattle.bz_num.proofs.Folds.{fold_from-step, fold_from-stop}
+use Rattle.bz_model.specs.declared.Model.{Model}
 use Rattle.bz_model.specs.Parting.{negated}
 use Rattle.bz_model.specs.Points.{coordinate}
+use Rattle.bz_model.specs.Strict.{HasItsColumns}
 use Rattle.bz_model.proofs.Sparse.{left_at}
 use Rattle.bz_check.specs.Sums.{row_pairs}
 
@@ -40,3 +44,7 @@ ray_stop b es x i d z count sum wide (Ok y) whole told l e goes at h = absurd to
 ray_stop b es x i d z count sum wide (Err w) whole told l e goes at h =
     let here : w ≡ record { at = count } = told ∙ ap (λ (k : ℕ). let r : WideSum = record { at = k } in r) at in
     ap Err here ∙ sym (fold_from-stop count sum (z, coordinate x (get_or es i d).0) (row_pairs (turned b (drop (i + 1) es)) x) goes) ∙ ap (fold_from count sum) (sym (next b es x i d z l e)) ∙ h
+
+-- the rows of a model speak of its columns
+pub rows_within : (m : Model) (n : ℕ) → HasItsColumns m → n ≡ length m.columns → AllByRecursion (λ row. AllBelow n row.terms) m.rows
+rows_within m n h e = rw e h.rows

@@ -5,53 +5,18 @@ use Rattle.std.specs.Result.{IsErrAnd}
 use Rattle.std.proofs.Common.{refl, sym, ◌∙◌, ap, subst, get_or, arith}
 use Rattle.bz_model.proofs.Sparse.{left_at, none_left}
 use Rattle.bz_cut.specs.Tests.{Test, AllHold, IsFirstFault, Judges, each_of, each_below}
-use Rattle.bz_cut.proofs.TestLemmas.{all_joined, fault_in_front, fault_behind}
-
--- where the rest holds the whole does, and a first fault of the rest is that of the whole
-pub record Reduces {F : Type 0} (rest whole : List (Test F)) : Type 0 where
-  pub hold : AllHold rest → AllHold whole
-  pub fault : (f : F) → IsFirstFault rest f → IsFirstFault whole f
-
-pub reduces_start : {F : Type 0} (whole : List (Test F)) → Reduces whole whole
-reduces_start whole = record { hold = λ h. h; fault = λ f h. h }
-
--- tests in front that hold
-pub reduces_past : {F : Type 0} (front rest whole : List (Test F)) → AllHold front → Reduces (front ++ rest) whole → Reduces rest whole
-reduces_past front rest whole h r = record {
-  hold = λ g. r.hold (all_joined front rest h g);
-  fault = λ f g. r.fault f (fault_behind front rest f h g);
-}
-
--- a fault in front
-pub reduces_stop : {F : Type 0} (front rest whole : List (Test F)) (f : F) → IsFirstFault front f → Reduces (front ++ rest) whole → IsFirstFault whole f
-reduces_stop front rest whole f h r = r.fault f (fault_in_front front rest f h)
+use Rattle.bz_cut.proofs.TestLemmas.{Reduces, fault_in_front, items_end, items_fault, items_next}
 
 -- a fault that is passed on
 pub passed_on : {F T : Type 0} (whole : List (Test F)) (f : F) (result : Result T F) → IsErrAnd result (λ g. g ≡ f) → IsFirstFault whole f → Judges whole result
 passed_on whole f (Ok x) told h = absurd told
 passed_on whole f (Err g) told h = rw told h
 
--- tests that hold, and then tests that are judged
-pub judges_behind : {F T : Type 0} (front rest : List (Test F)) (result : Result T F) → AllHold front → Judges rest result → Judges (front ++ rest) result
-judges_behind front rest (Ok x) h g = all_joined front rest h g
-judges_behind front rest (Err f) h g = fault_behind front rest f h g
+-- a fault of the tests in front
+pub stopped : {F T : Type 0} (front rest : List (Test F)) (f : F) (result : Result T F) → IsErrAnd result (λ g. g ≡ f) → IsFirstFault front f → Judges (front ++ rest) result
+stopped front rest f result told h = passed_on (front ++ rest) f result told (fault_in_front front rest f h)
 
--- ---- the tests of each item
-pub each_next : {F X : Type 0} (tests : X → List (Test F)) (xs : List X) (i : ℕ) (d : X) → i < length xs → each_of tests (drop i xs) ≡ tests (get_or xs i d) ++ each_of tests (drop (i + 1) xs)
-each_next tests xs i d l = ap (each_of tests) (left_at xs i d l)
-
-pub items_next : {F X : Type 0} (tests : X → List (Test F)) (xs : List X) (i : ℕ) (d : X) (whole : List (Test F)) → i < length xs → AllHold (tests (get_or xs i d)) → Reduces (each_of tests (drop i xs)) whole → Reduces (each_of tests (drop (i + 1) xs)) whole
-items_next tests xs i d whole l h r =
-    reduces_past (tests (get_or xs i d)) (each_of tests (drop (i + 1) xs)) whole h (rw (each_next tests xs i d l) at r)
-
-pub items_stop : {F X : Type 0} (tests : X → List (Test F)) (xs : List X) (i : ℕ) (d : X) (whole : List (Test F)) (f : F) → i < length xs → IsFirstFault (tests (get_or xs i d)) f → Reduces (each_of tests (drop i xs)) whole → IsFirstFault whole f
-items_stop tests xs i d whole f l h r =
-    reduces_stop (tests (get_or xs i d)) (each_of tests (drop (i + 1) xs)) whole f h (rw (each_next tests xs i d l) at r)
-
-pub items_end : {F X : Type 0} (tests : X → List (Test F)) (xs : List X) (i : ℕ) (whole : List (Test F)) → length xs ≤ i → Reduces (each_of tests (drop i xs)) whole → AllHold whole
-items_end tests xs i whole l r = r.hold (let none : each_of tests (drop i xs) ≡ [] = ap (each_of tests) (none_left xs i l) in rw none tt)
-
--- ---- the same of the items with their numbers
+-- ---- the tests of each item with its number
 pub length-numbered : {X : Type 0} (n : ℕ) (xs : List X) → length (enumerate_from n xs) ≡ length xs
 length-numbered n [] = refl
 length-numbered n (x ∷ xs) = ap suc (length-numbered (n + 1) xs)
@@ -77,7 +42,7 @@ numbered_next tests n xs i k x whole l e s h r =
 -- at an item with a fault
 pub numbered_stop : {F X T : Type 0} (tests : ℕ × X → List (Test F)) (n : ℕ) (xs : List X) (i k : ℕ) (x : X) (whole : List (Test F)) (f : F) (result : Result T F) → IsErrAnd result (λ g. g ≡ f) → i < length xs → k ≡ n + i → x ≡ get_or xs i x → IsFirstFault (tests (k, x)) f → Reduces (each_of tests (drop i (enumerate_from n xs))) whole → Judges whole result
 numbered_stop tests n xs i k x whole f result told l e s h r =
-    passed_on whole f result told (items_stop tests (enumerate_from n xs) i (0, x) whole f (rw (length-numbered n xs) l) (rw (numbered_is tests n xs i k x l e s) h) r)
+    passed_on whole f result told (items_fault tests (enumerate_from n xs) i (0, x) whole f (rw (length-numbered n xs) l) (rw (numbered_is tests n xs i k x l e s) h) r)
 
 -- after all items
 pub numbered_end : {F X : Type 0} (tests : ℕ × X → List (Test F)) (n : ℕ) (xs : List X) (i : ℕ) (whole : List (Test F)) → length xs ≤ i → Reduces (each_of tests (drop i (enumerate_from n xs))) whole → AllHold whole

@@ -15,7 +15,7 @@ ghost use Rattle.bz_check.specs.Sums.{row_pairs};
 use crate::faults::CheckFault;
 use crate::numbers::sum_at;
 use bz_cut::judge_fold;
-use bz_model::{Column, Model, Row};
+use bz_model::{Column, Model, Row, Split};
 use bz_num::{Folding, WideSum, narrow_negation};
 
 /// Tests that column `j` stays where it is, if it is an integer.
@@ -153,4 +153,18 @@ fn judge_ray_cost(model: &Model, ray: &[i128]) -> Result<(), CheckFault>
         return Err(CheckFault::Ray);
     }
     Ok(())
+}
+
+/// Tests that the objective improves without end along the direction.
+pub fn judge_ray(split: &Split, ray: &[i128]) -> Result<(), CheckFault>
+    requires few { length split.now.model.rows < 2 ^ 32 }
+    requires numbers { length ray.now ≡ length split.now.model.columns }
+    ensures { Judges (ray_tests split.now.model ray.now) result }
+{
+    let model = split.model();
+    let columns = model.columns.as_slice();
+    judge_integers(columns, ray)?;
+    judge_rows(model.rows.as_slice(), ray)?;
+    judge_bounds(columns, ray)?;
+    judge_ray_cost(model, ray)
 }

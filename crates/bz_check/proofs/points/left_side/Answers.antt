@@ -6,7 +6,7 @@ use Rattle.bz_model.specs.Points.{coordinate}
 use Rattle.bz_cut.specs.Tests.{Test, test}
 use Rattle.bz_check.specs.declared.faults.CheckFault.{CheckFault}
 use Rattle.bz_check.specs.Sums.{row_pairs}
-use Rattle.bz_check.proofs.Reducing.{judges_behind}
+use Rattle.bz_cut.proofs.TestLemmas.{judges_then}
 use Rattle.bz_check.proofs.points.left_side.Goals as goal
 
 pub returns-clause-judges : goal.returns-clause-judges
@@ -18,4 +18,4 @@ returns-clause-judges c =
     let fits : FitsSigned w128 c.in_ok-in_master.in_master = search rules in
     let fits_too : FitsSigned w128 c.in_ok-in_block.in_block = search rules in
     let fits_times : FitsSigned w128 c.args.block.now.times = search rules in
-    judges_behind {F = CheckFault} {T = ℤ} front rest c.joined.result (search rules) (rw (← first, ← second) (rw (to_z-of_z fits, to_z-of_z fits_too, to_z-of_z fits_times) at c.joined.ensures.judges))
+    judges_then front rest c.joined.result (search rules) (rw (← first, ← second) (rw (to_z-of_z fits, to_z-of_z fits_too, to_z-of_z fits_times) at c.joined.ensures.judges))

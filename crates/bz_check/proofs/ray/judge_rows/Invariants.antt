@@ -3,7 +3,7 @@ use Rattle.std.proofs.Common.{drop}
 use Rattle.std.specs.List.{enumerate_from}
 use Rattle.bz_cut.specs.Tests.{each_of}
 use Rattle.bz_check.specs.CheckTests.{ray_row_tests}
-use Rattle.bz_check.proofs.Reducing.{Reduces}
+use Rattle.bz_cut.proofs.TestLemmas.{Reduces}
 use Rattle.bz_check.proofs.ray.judge_rows.Given as goal
 
 abbrev pub invariant-loop-r : goal.invariant-loop-r
