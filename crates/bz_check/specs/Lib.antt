@@ -1,6 +1,7 @@
 pub mod BlockShapes
 pub mod CheckTests
 pub mod Fits
+pub mod IntegerTests
 pub mod LeftSides
 pub mod Passing
 pub mod Stated

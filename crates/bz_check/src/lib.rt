@@ -3,6 +3,7 @@
 
 mod costs;
 mod faults;
+mod integers;
 mod numbers;
 mod objective;
 mod points;
