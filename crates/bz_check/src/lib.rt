@@ -2,6 +2,7 @@
 #![tactic(auto)]
 
 mod costs;
+mod cut_list;
 mod faults;
 mod integers;
 mod numbers;

@@ -1,18 +1,23 @@
 //! Whether the inequalities of the master and of the blocks hold at a certificate's point.
-ghost use Rattle.std.specs.Prelude.{◌≡◌, ◌<◌, ◌≤◌, ◌^◌, pos, ◌+ℤ◌, ◌*ℤ◌, [], ◌∷◌, IfOk, length};
+ghost use Rattle.std.specs.Prelude.{◌≡◌, ◌<◌, ◌≤◌, ◌^◌, pos, ◌+ℤ◌, ◌*ℤ◌, [], ◌∷◌, IfOk, length, map};
 ghost use Rattle.std.specs.List.{AllByRecursion, enumerate_from};
 ghost use Rattle.bz_algebra.specs.Sums.{AllBelow};
 ghost use Rattle.bz_num.specs.Fold.{IsNarrowSum};
-ghost use Rattle.bz_model.specs.Parting.{blocks_of, inequalities_of, width_of};
+ghost use Rattle.bz_model.specs.Parting.{blocks_of, inequalities_of, integers_of, position_of, width_of};
 ghost use Rattle.bz_cut.specs.Tests.{Judges, each_of, test};
-ghost use Rattle.bz_check.specs.CheckTests.{block_tests, in_block_tests, in_master_tests};
+ghost use Rattle.bz_check.specs.CheckTests.{block_tests, in_block_tests, in_master_tests, point_tests};
+ghost use Rattle.bz_tree.specs.Boxes.{IsRootBox};
+ghost use Rattle.bz_tree.specs.Ends.{box_of};
+ghost use Rattle.bz_pass.specs.PartPoints.{HasPointShape};
 ghost use Rattle.bz_check.specs.BlockShapes.{HasBlockShape};
 ghost use Rattle.bz_check.specs.LeftSides.{FitsLengths, left_side_of, left_side_tests};
 
 use crate::faults::CheckFault;
 use crate::numbers::{sum_at, sum_of};
 use bz_cut::{judge_at_most, judge_product, row_sum};
-use bz_model::{BlockPart, Ineq, Master, Split};
+use crate::integers::judge_integers;
+use bz_model::{BlockPart, Ineq, Master, Parts, Split};
+use bz_tree::NodeBox;
 
 /// Whether inequality `n` holds at the master's point.
 fn judge_in_master(master: &Master, n: u32, row: &Ineq) -> Result<(), CheckFault>
@@ -128,3 +133,21 @@ fn judge_blocks(split: &Split, master: &Master, blocks: &[BlockPart]) -> Result<
     Ok(())
 }
 
+
+/// Tests that the point of the parts is feasible, whatever its etas are: the master's inequalities, then the integer
+/// columns, whose positions in the master are given in file order, and then block by block.
+pub fn judge_point(
+    split: &Split,
+    root: &NodeBox,
+    positions: &[u32],
+    parts: &Parts,
+) -> Result<(), CheckFault>
+    requires shape { HasPointShape split.now.model split.now.part parts.now }
+    requires root { IsRootBox split.now.model (box_of root.now) }
+    requires positions { positions.now ≡ map (λ e. position_of split.now.part e.0) (integers_of split.now.model) }
+    ensures { Judges (point_tests split.now.model split.now.part (box_of root.now) parts.now) result }
+{
+    judge_master_rows(&parts.master, split.inequalities(0))?;
+    judge_integers(split, &parts.master, root, positions)?;
+    judge_blocks(split, &parts.master, parts.blocks.as_slice())
+}

@@ -1,0 +1,16 @@
+use Rattle.bz_cut.specs.declared.CutFault.TheVariants.{Invalid, Wide}
+use Rattle.bz_cut.specs.CutTests.{cut_tests}
+use Rattle.bz_cut.proofs.TestLemmas.{answered_fault, answered_hold}
+use Rattle.bz_check.specs.CheckTests.{fault_of_cut}
+use Rattle.bz_check.proofs.cut_list.judge_one.Goals as goal
+
+pub returns-in-Ok : goal.returns-in-Ok
+returns-in-Ok c = answered_hold (fault_of_cut c.args.i) (cut_tests c.args.split.now.model c.args.split.now.part c.args.cut.now) c.in-Ok.ensures
+
+pub returns-in-Err-Invalid : goal.returns-in-Err-Invalid
+returns-in-Err-Invalid c =
+    answered_fault (fault_of_cut c.args.i) (cut_tests c.args.split.now.model c.args.split.now.part c.args.cut.now) Invalid (rw c.in-Err-Invalid.field-0-is at c.in-Err-Invalid.ensures)
+
+pub returns-in-Err-Wide : goal.returns-in-Err-Wide
+returns-in-Err-Wide c =
+    answered_fault (fault_of_cut c.args.i) (cut_tests c.args.split.now.model c.args.split.now.part c.args.cut.now) Wide (rw c.in-Err-Wide.field-0-is at c.in-Err-Wide.ensures)
