@@ -1,4 +1,7 @@
 pub mod CheckTests
 pub mod Fits
+pub mod LeafSides
 pub mod Passing
 pub mod Sums
+pub mod TreeGoals
+pub mod Walks

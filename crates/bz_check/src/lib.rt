@@ -2,5 +2,12 @@
 #![tactic(auto)]
 
 mod faults;
+mod integer_columns;
+mod leaf_check;
+mod leaf_sides;
+mod leaf_sums;
+mod open_splits;
+mod tree_goals;
+mod tree_walk;
 
 pub use faults::CheckFault;
