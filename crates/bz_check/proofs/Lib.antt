@@ -1,8 +1,15 @@
 pub mod BetweenTests
 pub mod CostSums
+pub mod Forests
 pub mod FoundSums
+pub mod IntegerPositions
 pub mod LaterEntries
+pub mod LeafSides
+pub mod LeafTests
 pub mod Lowest
 pub mod RayCosts
 pub mod Reducing
+pub mod Splitting
+pub mod Visiting
+pub mod Walking
 pub mod WholeQuotients

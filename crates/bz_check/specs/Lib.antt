@@ -2,7 +2,10 @@ pub mod BlockShapes
 pub mod CheckTests
 pub mod Fits
 pub mod IntegerTests
+pub mod LeafSides
 pub mod LeftSides
 pub mod Passing
 pub mod Stated
 pub mod Sums
+pub mod TreeGoals
+pub mod Walks

@@ -1,4 +1,5 @@
 //! Why a certificate is refused.
+use std::alloc::AllocError;
 
 /// Why a certificate is refused: the first test that fails, in the order of these kinds but for `Wide`, which stands
 /// where its sum stands.
@@ -26,4 +27,15 @@ pub enum CheckFault {
     Wide { list: u32, at: u32 },
     /// There is no memory.
     OutOfMemory,
+}
+
+impl From<AllocError> for CheckFault {
+    ghost use Rattle.std.specs.Prelude.{◌≡◌};
+    ghost use Rattle.bz_check.specs.declared.faults.CheckFault.TheVariants.{OutOfMemory};
+
+    ghost from_gives = { λ _ f. f ≡ OutOfMemory };
+
+    fn from(_error: AllocError) -> CheckFault {
+        CheckFault::OutOfMemory
+    }
 }

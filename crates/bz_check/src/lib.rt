@@ -4,13 +4,20 @@
 mod costs;
 mod cut_list;
 mod faults;
+mod integer_columns;
 mod integers;
+mod leaf_check;
+mod leaf_sides;
+mod leaf_sums;
 mod numbers;
 mod objective;
+mod open_splits;
 mod points;
 mod ray;
 mod shape;
 mod stated;
+mod tree_goals;
+mod tree_walk;
 mod value;
 
 pub use faults::CheckFault;
