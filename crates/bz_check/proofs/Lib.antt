@@ -3,6 +3,7 @@ pub mod CostSums
 pub mod Forests
 pub mod FoundSums
 pub mod IntegerPositions
+pub mod Joining
 pub mod LaterEntries
 pub mod LeafSides
 pub mod LeafTests

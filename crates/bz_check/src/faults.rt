@@ -39,3 +39,14 @@ impl From<AllocError> for CheckFault {
         CheckFault::OutOfMemory
     }
 }
+
+impl From<bz_num::OutOfMemory> for CheckFault {
+    ghost use Rattle.std.specs.Prelude.{◌≡◌};
+    ghost use Rattle.bz_check.specs.declared.faults.CheckFault.TheVariants.{OutOfMemory};
+
+    ghost from_gives = { λ _ f. f ≡ OutOfMemory };
+
+    fn from(_error: bz_num::OutOfMemory) -> CheckFault {
+        CheckFault::OutOfMemory
+    }
+}

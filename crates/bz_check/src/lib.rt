@@ -19,6 +19,7 @@ mod stated;
 mod tree_goals;
 mod tree_walk;
 mod value;
+mod whole;
 
 pub use faults::CheckFault;
 pub use objective::stated_of;

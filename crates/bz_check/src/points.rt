@@ -4,6 +4,7 @@ ghost use Rattle.std.specs.List.{AllByRecursion, enumerate_from};
 ghost use Rattle.bz_algebra.specs.Sums.{AllBelow};
 ghost use Rattle.bz_num.specs.Fold.{IsNarrowSum};
 ghost use Rattle.bz_model.specs.Parting.{blocks_of, inequalities_of, integers_of, position_of, width_of};
+ghost use Rattle.bz_model.specs.Splits.{IsSplit};
 ghost use Rattle.bz_cut.specs.Tests.{Judges, each_of, test};
 ghost use Rattle.bz_check.specs.CheckTests.{block_tests, in_block_tests, in_master_tests, point_tests};
 ghost use Rattle.bz_tree.specs.Boxes.{IsRootBox};
@@ -145,7 +146,8 @@ pub fn judge_point(
     requires shape { HasPointShape split.now.model split.now.part parts.now }
     requires root { IsRootBox split.now.model (box_of root.now) }
     requires positions { positions.now ≡ map (λ e. position_of split.now.part e.0) (integers_of split.now.model) }
-    ensures { Judges (point_tests split.now.model split.now.part (box_of root.now) parts.now) result }
+    ensures judges { Judges (point_tests split.now.model split.now.part (box_of root.now) parts.now) result }
+    ensures split { IsSplit split.now }
 {
     judge_master_rows(&parts.master, split.inequalities(0))?;
     judge_integers(split, &parts.master, root, positions)?;

@@ -9,8 +9,8 @@ use Rattle.bz_check.specs.CheckTests.{Tests, block_tests, in_master_tests, integ
 use Rattle.bz_check.proofs.Reducing.{stopped}
 use Rattle.bz_check.proofs.points.judge_point.Goals as goal
 
-pub returns-in_err-judge_master_rows : goal.returns-in_err-judge_master_rows
-returns-in_err-judge_master_rows c =
+pub returns-in_err-judge_master_rows-clause-judges : goal.returns-in_err-judge_master_rows-clause-judges
+returns-in_err-judge_master_rows-clause-judges c =
     let m = c.args.split.now.model in
     let part = c.args.split.now.part in
     let parts = c.args.parts.now in
@@ -21,8 +21,8 @@ returns-in_err-judge_master_rows c =
     let fault : IsFirstFault rows f = rw c.inequalities.ensures.value at c.in_err-judge_master_rows.ensures in
     stopped (rows ++ integers) blocks f c.from_residual.result c.from_residual.ensures.1 (fault_in_front rows integers f fault)
 
-pub returns-in_err-judge_integers : goal.returns-in_err-judge_integers
-returns-in_err-judge_integers c =
+pub returns-in_err-judge_integers-clause-judges : goal.returns-in_err-judge_integers-clause-judges
+returns-in_err-judge_integers-clause-judges c =
     let m = c.args.split.now.model in
     let part = c.args.split.now.part in
     let parts = c.args.parts.now in
@@ -33,8 +33,8 @@ returns-in_err-judge_integers c =
     let hold : AllHold rows = rw c.inequalities.ensures.value at c.in_ok-judge_master_rows.ensures in
     stopped (rows ++ integers) blocks f c.from_residual-in_err-judge_integers.result c.from_residual-in_err-judge_integers.ensures.1 (fault_behind rows integers f hold c.in_err-judge_integers.ensures)
 
-pub returns : goal.returns
-returns c =
+pub returns-clause-judges : goal.returns-clause-judges
+returns-clause-judges c =
     let m = c.args.split.now.model in
     let part = c.args.split.now.part in
     let parts = c.args.parts.now in

@@ -1,0 +1,140 @@
+//! The check of a whole certificate.
+ghost use Rattle.std.specs.Prelude.{◌≡◌, ◌<◌, ◌^◌, ◌++◌, [], ◌∷◌, length, map};
+ghost use Rattle.std.specs.List.{enumerate_from};
+ghost use Rattle.bz_model.specs.Parting.{integers_of, position_of};
+ghost use Rattle.bz_cut.specs.Tests.{Judges, JudgesUnless, each_of, test};
+ghost use Rattle.bz_tree.specs.Boxes.{IsRootBox};
+ghost use Rattle.bz_tree.specs.Ends.{IsNarrowBox, box_of};
+ghost use Rattle.bz_tree.specs.Trees.{IsTreeOf, Tree};
+ghost use Rattle.bz_pass.specs.PartPoints.{HasShape};
+ghost use Rattle.bz_cert.specs.Shapes.{AreCuts, AreNodes, IsShaped};
+ghost use Rattle.bz_check.specs.declared.faults.CheckFault.TheVariants as fault;
+ghost use Rattle.bz_check.specs.CheckTests.{HasTree, check_tests, cost_tests, cuts_tests, infeasible_tests, optimal_tests, point_tests, tree_tests, unbounded_tests, value_tests};
+ghost use Rattle.bz_check.specs.TreeGoals.{HasPositiveDen, bounds_of};
+
+use crate::costs::judge_costs;
+use crate::cut_list::judge_cuts;
+use crate::faults::CheckFault;
+use crate::points::judge_point;
+use crate::ray::judge_ray;
+use crate::shape::{judge_ray_shape, judge_shape};
+use crate::tree_goals::Goal;
+use crate::tree_walk::judge_tree;
+use crate::value::judge_value;
+use bz_cert::Certificate;
+use bz_cut::Cut;
+use bz_model::{Parts, Split};
+use bz_tree::{NodeBox, TreeNode};
+use std::alloc::Global;
+
+/// Tests that the parts are a feasible point, and that its blocks cost at most their etas and the value is theirs with
+/// the master's inner cost.
+fn judge_value_of_point(
+    split: &Split,
+    root: &NodeBox,
+    positions: &[u32],
+    parts: &Parts,
+    value: i128,
+) -> Result<(), CheckFault>
+    requires root { IsRootBox split.now.model (box_of root.now) }
+    requires positions { positions.now ≡ map (λ e. position_of split.now.part e.0) (integers_of split.now.model) }
+    ensures { Judges (test fault.Shape (HasShape split.now.model split.now.part parts.now) ∷ point_tests split.now.model split.now.part (box_of root.now) parts.now ++ each_of (cost_tests split.now.model split.now.part parts.now.master) (enumerate_from 1 parts.now.blocks) ++ value_tests split.now.model split.now.part parts.now.master value) result }
+{
+    judge_shape(split, parts)?;
+    judge_point(split, root, positions, parts)?;
+    judge_costs(split, &parts.master, parts.blocks.as_slice())?;
+    judge_value(split, &parts.master, value)
+}
+
+/// Tests that the cuts are valid, and that the tree holds over the box and each leaf shows the goal. It takes memory.
+fn judge_bound(
+    alloc: Global,
+    split: &Split,
+    root: &NodeBox,
+    cuts: &[Cut],
+    nodes: &[TreeNode],
+    goal: Goal,
+) -> Result<(), CheckFault>
+    requires root { IsRootBox split.now.model (box_of root.now) }
+    requires narrow { IsNarrowBox root.now }
+    requires cuts { AreCuts cuts.now }
+    requires nodes { AreNodes nodes.now }
+    requires goal { HasPositiveDen goal }
+    ensures { (tree : Tree) → IsTreeOf nodes.now tree → JudgesUnless fault.OutOfMemory (cuts_tests split.now.model split.now.part cuts.now ++ tree_tests split.now.model split.now.part cuts.now (bounds_of goal) (box_of root.now) 0 tree) result }
+{
+    judge_cuts(split, cuts)?;
+    judge_tree(alloc, split, cuts, root, nodes, goal)
+}
+
+/// Tests a certificate of an optimum. It takes memory.
+pub fn judge_optimal(
+    alloc: Global,
+    split: &Split,
+    root: &NodeBox,
+    positions: &[u32],
+    parts: &Parts,
+    c: &Certificate,
+) -> Result<(), CheckFault>
+    requires root { IsRootBox split.now.model (box_of root.now) }
+    requires narrow { IsNarrowBox root.now }
+    requires positions { positions.now ≡ map (λ e. position_of split.now.part e.0) (integers_of split.now.model) }
+    requires cuts { AreCuts c.now.cuts }
+    requires nodes { AreNodes c.now.tree }
+    ensures { (tree : Tree) → IsTreeOf c.now.tree tree → JudgesUnless fault.OutOfMemory (optimal_tests split.now.model split.now.part (box_of root.now) tree parts.now c.now) result }
+{
+    judge_value_of_point(split, root, positions, parts, c.value)?;
+    let goal = Goal::Reaches {
+        value: c.value,
+        den: parts.master.den,
+    };
+    judge_bound(
+        alloc,
+        split,
+        root,
+        c.cuts.as_slice(),
+        c.tree.as_slice(),
+        goal,
+    )
+}
+
+/// Tests a certificate of an infeasible model. It takes memory.
+pub fn judge_infeasible(
+    alloc: Global,
+    split: &Split,
+    root: &NodeBox,
+    c: &Certificate,
+) -> Result<(), CheckFault>
+    requires root { IsRootBox split.now.model (box_of root.now) }
+    requires narrow { IsNarrowBox root.now }
+    requires cuts { AreCuts c.now.cuts }
+    requires nodes { AreNodes c.now.tree }
+    ensures { (tree : Tree) → IsTreeOf c.now.tree tree → JudgesUnless fault.OutOfMemory (infeasible_tests split.now.model split.now.part (box_of root.now) tree c.now) result }
+{
+    judge_bound(
+        alloc,
+        split,
+        root,
+        c.cuts.as_slice(),
+        c.tree.as_slice(),
+        Goal::Empty,
+    )
+}
+
+/// Tests a certificate of an unbounded model.
+pub fn judge_unbounded(
+    split: &Split,
+    root: &NodeBox,
+    positions: &[u32],
+    parts: &Parts,
+    c: &Certificate,
+) -> Result<(), CheckFault>
+    requires root { IsRootBox split.now.model (box_of root.now) }
+    requires positions { positions.now ≡ map (λ e. position_of split.now.part e.0) (integers_of split.now.model) }
+    requires few { length split.now.model.rows < 2 ^ 32 }
+    ensures { Judges (unbounded_tests split.now.model split.now.part (box_of root.now) parts.now c.now) result }
+{
+    let ray = c.ray.as_slice();
+    judge_ray_shape(split, parts, ray)?;
+    judge_point(split, root, positions, parts)?;
+    judge_ray(split, ray)
+}
