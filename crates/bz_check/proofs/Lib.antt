@@ -11,6 +11,7 @@ pub mod Lowest
 pub mod RayCosts
 pub mod Reducing
 pub mod Splitting
+pub mod Told
 pub mod Visiting
 pub mod Walking
 pub mod WholeQuotients

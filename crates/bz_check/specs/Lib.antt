@@ -1,5 +1,6 @@
 pub mod BlockShapes
 pub mod CheckTests
+pub mod Checking
 pub mod Fits
 pub mod IntegerTests
 pub mod LeafSides

@@ -24,3 +24,4 @@ mod whole;
 pub use faults::CheckFault;
 pub use objective::stated_of;
 pub use stated::Stated;
+pub use whole::check;

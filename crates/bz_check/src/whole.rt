@@ -10,21 +10,23 @@ ghost use Rattle.bz_pass.specs.PartPoints.{HasShape};
 ghost use Rattle.bz_cert.specs.Shapes.{AreCuts, AreNodes, IsShaped};
 ghost use Rattle.bz_check.specs.declared.faults.CheckFault.TheVariants as fault;
 ghost use Rattle.bz_check.specs.CheckTests.{HasTree, check_tests, cost_tests, cuts_tests, infeasible_tests, optimal_tests, point_tests, tree_tests, unbounded_tests, value_tests};
+ghost use Rattle.bz_check.specs.Checking.{Answers};
 ghost use Rattle.bz_check.specs.TreeGoals.{HasPositiveDen, bounds_of};
 
 use crate::costs::judge_costs;
 use crate::cut_list::judge_cuts;
 use crate::faults::CheckFault;
+use crate::integer_columns::integer_positions;
 use crate::points::judge_point;
 use crate::ray::judge_ray;
 use crate::shape::{judge_ray_shape, judge_shape};
 use crate::tree_goals::Goal;
 use crate::tree_walk::judge_tree;
 use crate::value::judge_value;
-use bz_cert::Certificate;
+use bz_cert::{Certificate, Verdict};
 use bz_cut::Cut;
 use bz_model::{Parts, Split};
-use bz_tree::{NodeBox, TreeNode};
+use bz_tree::{NodeBox, TreeNode, root_box};
 use std::alloc::Global;
 
 /// Tests that the parts are a feasible point, and that its blocks cost at most their etas and the value is theirs with
@@ -67,7 +69,7 @@ fn judge_bound(
 }
 
 /// Tests a certificate of an optimum. It takes memory.
-pub fn judge_optimal(
+fn judge_optimal(
     alloc: Global,
     split: &Split,
     root: &NodeBox,
@@ -98,7 +100,7 @@ pub fn judge_optimal(
 }
 
 /// Tests a certificate of an infeasible model. It takes memory.
-pub fn judge_infeasible(
+fn judge_infeasible(
     alloc: Global,
     split: &Split,
     root: &NodeBox,
@@ -121,7 +123,7 @@ pub fn judge_infeasible(
 }
 
 /// Tests a certificate of an unbounded model.
-pub fn judge_unbounded(
+fn judge_unbounded(
     split: &Split,
     root: &NodeBox,
     positions: &[u32],
@@ -137,4 +139,40 @@ pub fn judge_unbounded(
     judge_ray_shape(split, parts, ray)?;
     judge_point(split, root, positions, parts)?;
     judge_ray(split, ray)
+}
+
+/// Tests what the certificate's verdict needs, over the box of the whole model. It takes memory.
+fn judge_over(
+    alloc: Global,
+    split: &Split,
+    root: &NodeBox,
+    positions: &[u32],
+    c: &Certificate,
+) -> Result<(), CheckFault>
+    requires shaped { IsShaped c.now }
+    requires root { IsRootBox split.now.model (box_of root.now) }
+    requires narrow { IsNarrowBox root.now }
+    requires positions { positions.now ≡ map (λ e. position_of split.now.part e.0) (integers_of split.now.model) }
+    requires few { length split.now.model.rows < 2 ^ 32 }
+    ensures { (tree : Tree) → HasTree c.now c.now.verdict tree → JudgesUnless fault.OutOfMemory (check_tests split.now.model split.now.part (box_of root.now) tree c.now) result }
+{
+    match (c.verdict, &c.parts) {
+        (Verdict::Optimal, Some(parts)) => judge_optimal(alloc, split, root, positions, parts, c),
+        (Verdict::Infeasible, _) => judge_infeasible(alloc, split, root, c),
+        (Verdict::Unbounded, Some(parts)) => judge_unbounded(split, root, positions, parts, c),
+        _ => Err(CheckFault::Shape),
+    }
+}
+
+/// Checks a certificate against a split. `Ok` says that all its tests hold, and an error names the first that doesn't, or
+/// that there is no memory. It takes memory for a few numbers for each integer column of the model and for each split of
+/// the tree that is open at once.
+pub fn check(alloc: Global, split: &Split, c: &Certificate) -> Result<(), CheckFault>
+    requires shaped { IsShaped c.now }
+    requires few { length split.now.model.rows < 2 ^ 32 }
+    ensures { Answers split.now.model split.now.part c.now result }
+{
+    let root = root_box(alloc, split)?;
+    let positions = integer_positions(alloc, split)?;
+    judge_over(alloc, split, &root, positions.as_slice(), c)
 }
