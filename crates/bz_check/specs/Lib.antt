@@ -1,4 +1,5 @@
 pub mod CheckTests
 pub mod Fits
+pub mod Laws
 pub mod Passing
 pub mod Sums

@@ -2,5 +2,7 @@
 #![tactic(auto)]
 
 mod faults;
+mod laws;
 
 pub use faults::CheckFault;
+pub use laws::{all_tests_tell, check_faults_are_unique, passing_is_true};

@@ -1,0 +1,5 @@
+pub mod AllTests
+pub mod AllTestsLists
+pub mod AllTestsPoints
+pub mod AllTestsRoots
+pub mod AllTestsTrees
