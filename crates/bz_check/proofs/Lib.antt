@@ -1,3 +1,8 @@
+pub mod AllTests
+pub mod AllTestsLists
+pub mod AllTestsPoints
+pub mod AllTestsRoots
+pub mod AllTestsTrees
 pub mod BetweenTests
 pub mod CostSums
 pub mod Forests

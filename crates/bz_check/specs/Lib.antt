@@ -3,6 +3,7 @@ pub mod CheckTests
 pub mod Checking
 pub mod Fits
 pub mod IntegerTests
+pub mod Laws
 pub mod LeafSides
 pub mod LeftSides
 pub mod Passing

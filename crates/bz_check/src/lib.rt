@@ -6,6 +6,7 @@ mod cut_list;
 mod faults;
 mod integer_columns;
 mod integers;
+mod laws;
 mod leaf_check;
 mod leaf_sides;
 mod leaf_sums;
@@ -22,6 +23,7 @@ mod value;
 mod whole;
 
 pub use faults::CheckFault;
+pub use laws::{all_tests_tell, check_faults_are_unique, passing_is_true};
 pub use objective::stated_of;
 pub use stated::Stated;
 pub use whole::check;

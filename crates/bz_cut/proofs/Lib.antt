@@ -4,3 +4,4 @@ pub mod NarrowSums
 pub mod Steps
 pub mod SumTests
 pub mod TestLemmas
+pub mod WorkedSplits

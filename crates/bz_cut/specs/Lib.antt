@@ -5,3 +5,4 @@ pub mod Laws
 pub mod Rows
 pub mod Sums
 pub mod Tests
+pub mod Worked
