@@ -1,6 +1,7 @@
 -- What the check of a certificate answers, by its tests.
 use Rattle.std.specs.Prelude.{ℕ, ◌≡◌, ◌⊎◌, List, Result, Ok, Err}
 use Rattle.bz_model.specs.declared.Model.{Model}
+use Rattle.bz_model.specs.Splits.{Decomposition, IsSplit}
 use Rattle.bz_cut.specs.Tests.{AllHold}
 use Rattle.bz_tree.specs.Boxes.{Box, IsRootBox}
 use Rattle.bz_tree.specs.Trees.{Tree}
@@ -18,6 +19,10 @@ pub record PassesTests (m : Model) (part : List ℕ) (c : Certificate) : Type 0 
   pub hold : AllHold (check_tests m part root tree c)
 
 -- all tests hold, or the first fault is answered; want of memory is an answer of its own
-abbrev pub Answers : Model → List ℕ → Certificate → Result (Unit {0}) CheckFault → Type 0
-Answers m part c (Ok _) = PassesTests m part c
-Answers m part c (Err f) = (f ≡ fault.OutOfMemory) ⊎ IsCheckFault m part c f
+abbrev pub Settles : Decomposition → Certificate → Result (Unit {0}) CheckFault → Type 0
+Settles d c (Ok _) = IsSplit d × PassesTests d.model d.part c
+Settles d c (Err f) = (f ≡ fault.OutOfMemory) ⊎ (IsSplit d × IsCheckFault d.model d.part c f)
+
+-- the answer is the one that is due, or that there is no memory
+abbrev pub IsDue : Result (Unit {0}) CheckFault → Result (Unit {0}) CheckFault → Type 0
+IsDue due answer = (answer ≡ due) ⊎ (answer ≡ Err fault.OutOfMemory)

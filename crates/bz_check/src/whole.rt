@@ -1,16 +1,20 @@
 //! The check of a whole certificate.
-ghost use Rattle.std.specs.Prelude.{◌≡◌, ◌<◌, ◌^◌, ◌++◌, [], ◌∷◌, length, map};
+ghost use Rattle.std.specs.Prelude.{◌≡◌, ◌<◌, ◌^◌, ◌++◌, [], ◌∷◌, ◌⊎◌, Ok, Err, IfErr, IfOk, length, map};
 ghost use Rattle.std.specs.List.{enumerate_from};
 ghost use Rattle.bz_model.specs.Parting.{integers_of, position_of};
+ghost use Rattle.bz_model.specs.Splits.{IsSplit};
 ghost use Rattle.bz_cut.specs.Tests.{Judges, JudgesUnless, each_of, test};
 ghost use Rattle.bz_tree.specs.Boxes.{IsRootBox};
 ghost use Rattle.bz_tree.specs.Ends.{IsNarrowBox, box_of};
 ghost use Rattle.bz_tree.specs.Trees.{IsTreeOf, Tree};
 ghost use Rattle.bz_pass.specs.PartPoints.{HasShape};
 ghost use Rattle.bz_cert.specs.Shapes.{AreCuts, AreNodes, IsShaped};
+ghost use Rattle.bz_check.specs.declared.faults.CheckFault.{CheckFault};
 ghost use Rattle.bz_check.specs.declared.faults.CheckFault.TheVariants as fault;
-ghost use Rattle.bz_check.specs.CheckTests.{HasTree, check_tests, cost_tests, cuts_tests, infeasible_tests, optimal_tests, point_tests, tree_tests, unbounded_tests, value_tests};
-ghost use Rattle.bz_check.specs.Checking.{Answers};
+ghost use Rattle.bz_check.specs.CheckTests.{HasTree, IsCheckFault, check_tests, cost_tests, cuts_tests, infeasible_tests, optimal_tests, point_tests, tree_tests, unbounded_tests, value_tests};
+ghost use Rattle.bz_check.specs.Checking.{IsDue, Settles};
+ghost use Rattle.bz_check.specs.Fits.{Fits};
+ghost use Rattle.bz_check.specs.Passing.{Passes};
 ghost use Rattle.bz_check.specs.TreeGoals.{HasPositiveDen, bounds_of};
 
 use crate::costs::judge_costs;
@@ -164,15 +168,29 @@ fn judge_over(
     }
 }
 
-/// Checks a certificate against a split. `Ok` says that all its tests hold, and an error names the first that doesn't, or
-/// that there is no memory. It takes memory for a few numbers for each integer column of the model and for each split of
-/// the tree that is open at once.
-pub fn check(alloc: Global, split: &Split, c: &Certificate) -> Result<(), CheckFault>
+/// Tests what the certificate's verdict needs. It takes memory.
+fn judge_certificate(alloc: Global, split: &Split, c: &Certificate) -> Result<(), CheckFault>
     requires shaped { IsShaped c.now }
     requires few { length split.now.model.rows < 2 ^ 32 }
-    ensures { Answers split.now.model split.now.part c.now result }
+    ensures { Settles split.now c.now result }
 {
     let root = root_box(alloc, split)?;
     let positions = integer_positions(alloc, split)?;
     judge_over(alloc, split, &root, positions.as_slice(), c)
+}
+
+/// Checks a certificate against a split: `Ok` exactly where it passes and no sum or product that tells so is wide, and
+/// else its first fault. It takes memory, a few numbers for each integer column of the model and for each split of the
+/// tree that is open at once, and answers `OutOfMemory` for want of it.
+pub fn check(alloc: Global, split: &Split, c: &Certificate) -> Result<(), CheckFault>
+    requires shaped { IsShaped c.now }
+    requires few_rows { length split.now.model.rows < 2 ^ 32 }
+    ensures passes { IfOk result (λ _. Passes split.now.model split.now.part c.now) }
+    ensures fits { IfOk result (λ _. Fits split.now.model split.now.part c.now) }
+    ensures split { IfOk result (λ _. IsSplit split.now) }
+    ensures fault { IfErr result (λ f. (f ≡ fault.OutOfMemory) ⊎ IsCheckFault split.now.model split.now.part c.now f) }
+    ensures holds { Passes split.now.model split.now.part c.now → Fits split.now.model split.now.part c.now → IsDue (Ok tt) result }
+    ensures first { (f : CheckFault) → IsCheckFault split.now.model split.now.part c.now f → IsDue (Err f) result }
+{
+    judge_certificate(alloc, split, c)
 }

@@ -1,8 +1,12 @@
-use Rattle.bz_tree.specs.Ends.{box_of}
-use Rattle.bz_check.proofs.Told.{answers, some_tree}
+use Rattle.bz_check.proofs.Told.{fault_told, first_due, fits_told, holds_due, passes_told, split_told}
 use Rattle.bz_check.proofs.whole.check.Goals as goal
 
 pub returns : goal.returns
-returns c =
-    let some = some_tree c.args.c.now c.requires.shaped in
-    answers c.args.split.now.model c.args.split.now.part c.args.c.now (box_of c.in_ok-root.root) some.0 c.judge_over.result c.in_ok-root.ensures.root some.1 (c.judge_over.ensures some.0 some.1)
+returns c = record {
+  passes = passes_told c.args.split.now c.args.c.now c.judge_certificate.result c.judge_certificate.ensures;
+  fits = fits_told c.args.split.now c.args.c.now c.judge_certificate.result c.judge_certificate.ensures;
+  split = split_told c.args.split.now c.args.c.now c.judge_certificate.result c.judge_certificate.ensures;
+  fault = fault_told c.args.split.now c.args.c.now c.judge_certificate.result c.judge_certificate.ensures;
+  holds = holds_due c.args.split.now c.args.c.now c.judge_certificate.result c.judge_certificate.ensures;
+  first = first_due c.args.split.now c.args.c.now c.judge_certificate.result c.judge_certificate.ensures;
+}
