@@ -70,6 +70,7 @@ pub fn inner_cost_at(split: &Split, part: u32, position: u32) -> i128
     ensures narrow { IsNarrow result }
 {
     let model = split.model();
+    // Without costs no column has to be looked up.
     if model.cost.as_slice().is_empty() {
         return 0;
     }

@@ -5,9 +5,9 @@ ghost use Rattle.std.specs.Prelude.{◌≡◌, ◌+ℤ◌, ◌<ℤ◌, ◌∷◌
 ghost use Rattle.bz_model.specs.Worked.{AreWorkedColumns};
 ghost use Rattle.bz_cut.specs.Worked.{AreLinked};
 
-use crate::{Cut, CutFault, fits_and_valid, judge_cut};
+use crate::{Cut, CutFault, fits_and_valid, judge, judge_at_most, judge_cut, judge_sum};
 use bz_model::{Column, Model, Row, Split};
-use bz_num::{Frac, Items, Name, OutOfMemory, SparseRow};
+use bz_num::{Frac, Items, Name, OutOfMemory, SparseRow, fold};
 use std::alloc::Global;
 use std::test::Fail;
 
@@ -251,5 +251,21 @@ fn wide_sums_and_products_are_told(rt: HostRuntime) -> Result<(), Fail> {
         let cut = cut(rt.alloc(), &numbers)?;
         assert_eq!(rt; judge_cut(&split, &cut), Err(CutFault::Wide));
     }
+    Ok(())
+}
+
+/// 2 + 3 is 5, and is at most 2 times 3.
+#[test]
+fn sums_are_judged(rt: HostRuntime) -> Result<(), Fail> {
+    let (invalid, wide) = (CutFault::Invalid, CutFault::Wide);
+    let five = fold(&[(2, 1), (1, 3)]);
+    let too_large = fold(&[(MOST, 1), (1, 1)]);
+    assert_eq!(rt; judge_sum(five, 5, invalid, wide), Ok(()));
+    assert_eq!(rt; judge_sum(five, 6, invalid, wide), Err(invalid));
+    assert_eq!(rt; judge_sum(too_large, 5, invalid, wide), Err(wide));
+    assert_eq!(rt; judge_at_most(five, 2, 3, invalid, wide), Ok(()));
+    assert_eq!(rt; judge_at_most(five, 2, 2, invalid, wide), Err(invalid));
+    assert_eq!(rt; judge_at_most(five, 2, HALF, invalid, wide), Err(wide));
+    assert_eq!(rt; judge(false, invalid), Err(invalid));
     Ok(())
 }
