@@ -6,14 +6,14 @@ use Rattle.bz_io.specs.Told.{WhereTold}
 use Rattle.bz_model.specs.declared.Model.{Model}
 use Rattle.bz_model.specs.Splits.{Decomposition}
 use Rattle.bz_model.specs.Strict.{IsStrict}
-use Rattle.bz_pass.specs.declared.Certificate.{Certificate}
+use Rattle.bz_cert.specs.declared.Certificate.{Certificate}
 use Rattle.bz_lines.specs.declared.form.FormStop.{FormStop}
 use Rattle.bz_lines.specs.declared.form.FormStop.TheVariants.{Outside, OutOfMemory}
 use Rattle.bz_top.specs.declared.job.Job.{Job}
 use Rattle.bz_top.specs.declared.status.File.{File}
 use Rattle.bz_top.specs.declared.status.File.TheVariants.{Model as ModelFile, Part as PartFile, Cert as CertFile}
 use Rattle.bz_top.specs.declared.status.Refusal.{Refusal}
-use Rattle.bz_top.specs.declared.status.Refusal.TheVariants.{Form, Check, Read, TooLong, Memory}
+use Rattle.bz_top.specs.declared.status.Refusal.TheVariants as refusal
 use Rattle.bz_cert.specs.CertText.{IsCertText}
 use Rattle.bz_top.specs.Claims.{Accepted, IsCause, IsReached, IsTooLong, RefusesCheck, RefusesFile, limit_of, refusal_of}
 use Rattle.bz_top.specs.Ends.{name_of}
@@ -38,22 +38,24 @@ held_at_first None (Some later) job file text same holds = absurd same
 held_at_first (Some contents) None job file text same holds = absurd same
 
 -- a load's refusal has its cause
-pub load_cause : (held then : Option Contents) (job : Job) (file : File) (refusal : Refusal) → WhereTold IsSame held then → Reached held job file → RefusesFile then job file refusal → IsCause held job refusal
-load_cause None then job file refusal same reached refuses = tt
-load_cause (Some contents) None job file refusal same reached refuses = absurd same
-load_cause (Some contents) (Some later) job file (Form _) same reached refuses = absurd refuses
-load_cause (Some contents) (Some later) job file Check same reached refuses = absurd refuses
-load_cause (Some contents) (Some later) job file (Read f) same reached refuses =
+pub load_cause : (held then : Option Contents) (job : Job) (file : File) (r : Refusal) → WhereTold IsSame held then → Reached held job file → RefusesFile then job file r → IsCause held job r
+load_cause None then job file r same reached refuses = tt
+load_cause (Some contents) None job file r same reached refuses = absurd same
+load_cause (Some contents) (Some later) job file refusal.Model same reached refuses = absurd refuses
+load_cause (Some contents) (Some later) job file refusal.Part same reached refuses = absurd refuses
+load_cause (Some contents) (Some later) job file (refusal.Cert _) same reached refuses = absurd refuses
+load_cause (Some contents) (Some later) job file (refusal.Check _) same reached refuses = absurd refuses
+load_cause (Some contents) (Some later) job file (refusal.Read f) same reached refuses =
     subst (λ (g : File). IsReached contents job g) (sym refuses) reached
-load_cause (Some contents) (Some later) job file (TooLong f) same reached refuses =
+load_cause (Some contents) (Some later) job file (refusal.TooLong f) same reached refuses =
     subst (λ (g : File). IsTooLong contents job g) (sym refuses.0) (record {
       reached = reached;
       too_long = subst (λ (o : Option (List ℕ)). IsSomeAnd o (λ text. limit_of file < length text)) (same (name_of job file)) refuses.1;
     })
-load_cause (Some contents) (Some later) job file Memory same reached refuses = tt
+load_cause (Some contents) (Some later) job file refusal.Memory same reached refuses = tt
 
 -- want of memory needs no cause
-pub memory_cause : (held : Option Contents) (job : Job) → IsCause held job Memory
+pub memory_cause : (held : Option Contents) (job : Job) → IsCause held job refusal.Memory
 memory_cause None job = tt
 memory_cause (Some contents) job = tt
 
@@ -92,7 +94,7 @@ pub if_err_then : {T E : Type 0} {P Q : E → Type 0} (r : Result T E) → ((e :
 if_err_then (Ok _) f h = tt
 if_err_then (Err e) f h = f e h
 
--- what follows of each value of a call from five facts
-pub if_ok_then : {T E : Type 0} {P1 P2 P3 P4 P5 Q : T → Type 0} (r : Result T E) → ((x : T) → P1 x → P2 x → P3 x → P4 x → P5 x → Q x) → IfOk r P1 → IfOk r P2 → IfOk r P3 → IfOk r P4 → IfOk r P5 → IfOk r Q
-if_ok_then (Ok x) f h1 h2 h3 h4 h5 = f x h1 h2 h3 h4 h5
-if_ok_then (Err _) f h1 h2 h3 h4 h5 = tt
+-- what follows of each value of a call from four facts
+pub if_ok_then : {T E : Type 0} {P1 P2 P3 P4 Q : T → Type 0} (r : Result T E) → ((x : T) → P1 x → P2 x → P3 x → P4 x → Q x) → IfOk r P1 → IfOk r P2 → IfOk r P3 → IfOk r P4 → IfOk r Q
+if_ok_then (Ok x) f h1 h2 h3 h4 = f x h1 h2 h3 h4
+if_ok_then (Err _) f h1 h2 h3 h4 = tt

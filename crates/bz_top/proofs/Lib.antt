@@ -1,7 +1,10 @@
 pub mod Causes
+pub mod FewRows
 pub mod Fours
+pub mod Laws
+pub mod MemoryEnds
+pub mod PieceTexts
 pub mod Puts
 pub mod Refused
 pub mod Settled
 pub mod Showing
-pub mod Texts

@@ -6,28 +6,33 @@ use Rattle.std.proofs.Common.{◌≡◌, ◌≢◌, ◌⊎◌, inl, inr, ℕ, ze
 use Rattle.std.specs.Prelude.{IsSomeAnd, Result, Ok, Err, [], ◌∷◌, codes}
 use Rattle.std.specs.List.{slice_index_or}
 use Rattle.bz_algebra.proofs.Bounded.{by_lt, by_order}
-use Rattle.bz_algebra.specs.Fractions.{Fraction}
 use Rattle.bz_io.specs.Desk.{Contents}
 use Rattle.bz_model.specs.declared.Model.{Model}
 use Rattle.bz_model.specs.Splits.{Decomposition}
-use Rattle.bz_pass.specs.declared.Certificate.{Certificate}
-use Rattle.bz_pass.specs.Certificates.{Passes}
+use Rattle.bz_cert.specs.declared.CertFault.{CertFault}
+use Rattle.bz_cert.specs.declared.Certificate.{Certificate}
+use Rattle.bz_cert.specs.CertFaults.{IsCertFault}
+use Rattle.bz_check.specs.declared.CheckFault.{CheckFault}
+use Rattle.bz_check.specs.CheckTests.{IsCheckFault}
+use Rattle.bz_check.specs.Passing.{Passes}
+use Rattle.bz_pass.specs.Laws.{IsDecomposed}
 use Rattle.bz_check.specs.Fits.{Fits}
+use Rattle.bz_top.specs.declared.holding.Holding.{Holding}
 use Rattle.bz_top.specs.declared.job.Job.{Job}
 use Rattle.bz_top.specs.declared.job.Job.TheVariants.{Check as AJob}
 use Rattle.bz_top.specs.declared.status.File.{File}
 use Rattle.bz_top.specs.declared.status.File.TheVariants.{Model as ModelFile, Part as PartFile, Cert as CertFile}
 use Rattle.bz_top.specs.declared.status.Refusal.{Refusal}
-use Rattle.bz_top.specs.declared.status.Refusal.TheVariants.{Form, Check, Read, TooLong, Memory}
+use Rattle.bz_top.specs.declared.status.Refusal.TheVariants as refusal
 use Rattle.bz_top.specs.declared.status.Status.{Status}
 use Rattle.bz_top.specs.declared.status.Status.TheVariants as status
 use Rattle.bz_cert.specs.CertText.{IsCertText}
 use Rattle.bz_mps.specs.ModelText.{IsModelText}
 use Rattle.bz_part.specs.PartText.{IsPartText}
-use Rattle.bz_top.specs.Claims.{HoldsFile, IsAccepted, IsCutShort, IsProven, IsCauseIn, IsCertRefused, IsOutside, IsTooLong, ReadsCertificate, ReadsModel, Settles, ShownBy, EndsSettled, EndsSettledAsked, IsCause, Shown, limit_of}
+use Rattle.bz_top.specs.Claims.{Decomposes, IsEarly, HoldsFile, IsAccepted, IsCutShort, IsProven, IsCauseIn, IsCertRefused, IsCheckRefused, IsModelRefused, IsPartRefused, IsTooLong, ReadsCertificate, ReadsModel, Settles, ShownBy, EndsSettled, EndsSettledAsked, IsCause, Shown, limit_of}
 use Rattle.bz_top.specs.Ends.{name_of, status_after, status_of}
 use Rattle.bz_top.specs.Jobs.{IsJobless, JobOf}
-use Rattle.bz_top.proofs.Refused.{one_text}
+use Rattle.bz_top.proofs.Refused.{one_text, one_accepted, one_certificate_read, OneModel, OnePart, OneCertificate}
 
 -- the file holds a text within its limit
 abbrev IsHeld : Contents → Job → File → Type 0
@@ -109,13 +114,13 @@ record HasStage (contents : Contents) (job : Job) (s : Status) : Type 0 where
 one_status : (contents : Contents) (job : Job) (s t : Status) → HasStage contents job s → HasStage contents job t → s ≡ t
 one_status contents job s t p q = p.status_is ∙ ap status_at (same_stage contents job p.stage q.stage p.ends q.ends) ∙ sym q.status_is
 
-too_long_stage : (contents : Contents) (job : Job) (file : File) → IsTooLong contents job file → HasStage contents job status.TooLong
+abbrev too_long_stage : (contents : Contents) (job : Job) (file : File) → IsTooLong contents job file → HasStage contents job status.TooLong
 too_long_stage contents job ModelFile long = record { stage = 0; ends = record { before = λ i b. absurd (omega (arith, b)); fails = not_held contents job ModelFile long }; status_is = refl }
 too_long_stage contents job PartFile long = record { stage = 2; ends = record { before = before_part contents job long.reached; fails = not_held contents job PartFile long }; status_is = refl }
 too_long_stage contents job CertFile long = record { stage = 4; ends = record { before = before_cert contents job long.reached; fails = not_held contents job CertFile long }; status_is = refl }
 
-outside_stage : (contents : Contents) (job : Job) (file : File) → IsOutside contents job file → HasStage contents job (status_of (Form file))
-outside_stage contents job ModelFile out = record {
+abbrev model_stage : (contents : Contents) (job : Job) → IsModelRefused contents job → HasStage contents job status.Model
+model_stage contents job out = record {
   stage = 1;
   ends = record {
     before = with_one contents job 0 (λ i b. absurd (omega (arith, b))) (out.text, out.held);
@@ -123,29 +128,13 @@ outside_stage contents job ModelFile out = record {
   };
   status_is = refl;
 }
-outside_stage contents job PartFile out = record {
+
+abbrev part_stage : (contents : Contents) (job : Job) → IsPartRefused contents job → HasStage contents job status.Part
+part_stage contents job out = record {
   stage = 3;
   ends = record {
     before = with_one contents job 2 (before_part contents job out.reached) (out.text, out.held);
     fails = λ a. out.says_nothing a.0 a.1.model (subst (λ (t : List ℕ). IsPartText t a.0.model a.0.part) (one_text contents job PartFile _ _ a.1.part out.held) a.1.part_is) a.1.strict;
-  };
-  status_is = refl;
-}
-outside_stage contents job CertFile out = record {
-  stage = 5;
-  ends = record {
-    before = with_one contents job 4 (before_cert contents job out.reached) (out.text, out.held);
-    fails = λ r. out.says_nothing r.0 (subst (λ (t : List ℕ). IsCertText t r.0) (one_text contents job CertFile _ _ r.1.held out.held) r.1.reads);
-  };
-  status_is = refl;
-}
-
-refused_stage : (contents : Contents) (job : Job) → IsCertRefused contents job → HasStage contents job status.Cert
-refused_stage contents job r = record {
-  stage = 6;
-  ends = record {
-    before = before_check contents job (r.split, r.accepted) (r.certificate, r.reads);
-    fails = λ p. r.refused p.split p.certificate p.accepted p.reads p.passes p.fits;
   };
   status_is = refl;
 }
@@ -160,9 +149,9 @@ proven_stage contents job p = record {
   status_is = refl;
 }
 
--- files that show an optimum have such a certificate
-proven : (contents : Contents) (job : Job) (stated : Fraction) → ShownBy contents job stated → IsProven contents job
-proven contents job stated s = record {
+-- files that show a verdict have such a certificate
+proven : (contents : Contents) (job : Job) (holding : Holding) → ShownBy contents job holding → IsProven contents job
+proven contents job holding s = record {
   split = record { model = s.shows.model; part = s.shows.part };
   accepted = record {
     model = record { text = s.model_text; held = s.model; reads = s.shows.model_is };
@@ -177,22 +166,84 @@ proven contents job stated s = record {
   fits = s.shows.fits;
 }
 
-settled_stage : (contents : Contents) (job : Job) (s : Status) → Settles contents job s → HasStage contents job s
-settled_stage contents job status.Done h = proven_stage contents job h
-settled_stage contents job status.Unresolved h = absurd h
-settled_stage contents job status.Usage h = absurd h
-settled_stage contents job status.Model h = outside_stage contents job ModelFile h
-settled_stage contents job status.Part h = outside_stage contents job PartFile h
-settled_stage contents job status.Read h = absurd h
-settled_stage contents job status.Write h = absurd h
-settled_stage contents job status.Memory h = absurd h
-settled_stage contents job status.Cert h = elim h [ inl out ↦ outside_stage contents job CertFile out | inr r ↦ refused_stage contents job r ]
-settled_stage contents job status.TooLong h = too_long_stage contents job h.0 h.1
+-- ---- what a text or a certificate with a fault isn't
+-- A text with a fault is no certificate's; a certificate with a fault doesn't both pass and fit; and a text says one thing
+-- at most.
+pub record AreExclusive : Type 0 where
+  pub model : OneModel
+  pub part : OnePart
+  pub certificate : OneCertificate
+  pub text : (text : List ℕ) (c : Certificate) (f : CertFault) → IsCertText text c → IsCertFault text f.line f.kind → ⊥
+  pub check : (d : Decomposition) (c : Certificate) (f : CheckFault) → IsDecomposed d.model d.part → IsCheckFault d.model d.part c f → Passes d.model d.part c → Fits d.model d.part c → ⊥
 
--- the files show an optimum: so no other status is settled
-pub done_settled : (held : Option Contents) (job : Job) (stated : Fraction) → Shown held job stated → EndsSettled held job status.Done
-done_settled None job stated shown = tt
-done_settled (Some contents) job stated shown = λ s h. inl (one_status contents job status.Done s (proven_stage contents job (proven contents job stated shown)) (settled_stage contents job s h))
+module _ (laws : AreExclusive) where
+  cert_stage : (contents : Contents) (job : Job) (f : CertFault) → IsCertRefused contents job f → HasStage contents job status.Cert
+  cert_stage contents job f out = record {
+    stage = 5;
+    ends = record {
+      before = with_one contents job 4 (before_cert contents job out.reached) (out.text, out.held);
+      fails = λ r. laws.text out.text r.0 f (subst (λ (t : List ℕ). IsCertText t r.0) (one_text contents job CertFile _ _ r.1.held out.held) r.1.reads) out.is_fault;
+    };
+    status_is = refl;
+  }
+
+  refused_stage : (contents : Contents) (job : Job) (f : CheckFault) → Decomposes (Some contents) job → IsCheckRefused contents job f → HasStage contents job status.Cert
+  refused_stage contents job f decomposed r = record {
+    stage = 6;
+    ends = record {
+      before = before_check contents job (r.split, r.accepted) (r.certificate, r.reads);
+      fails = λ p.
+          let same : p.split ≡ r.split = one_accepted laws.model laws.part contents job p.split r.split p.accepted r.accepted in
+          let same_cert : p.certificate ≡ r.certificate = one_certificate_read laws.certificate contents job p.certificate r.certificate p.reads r.reads in
+          let passes : Passes r.split.model r.split.part p.certificate = subst (λ (d : Decomposition). Passes d.model d.part p.certificate) same p.passes in
+          let fits : Fits r.split.model r.split.part p.certificate = subst (λ (d : Decomposition). Fits d.model d.part p.certificate) same p.fits in
+          laws.check r.split r.certificate f (decomposed r.split r.accepted) r.is_fault
+              (subst (λ (c : Certificate). Passes r.split.model r.split.part c) same_cert passes)
+              (subst (λ (c : Certificate). Fits r.split.model r.split.part c) same_cert fits);
+    };
+    status_is = refl;
+  }
+
+  settled_stage : (contents : Contents) (job : Job) (s : Status) → Decomposes (Some contents) job → Settles contents job s → HasStage contents job s
+  settled_stage contents job status.Done decomposed h = proven_stage contents job h
+  settled_stage contents job status.Unresolved decomposed h = absurd h
+  settled_stage contents job status.Usage decomposed h = absurd h
+  settled_stage contents job status.Model decomposed h = model_stage contents job h
+  settled_stage contents job status.Part decomposed h = part_stage contents job h
+  settled_stage contents job status.Read decomposed h = absurd h
+  settled_stage contents job status.Write decomposed h = absurd h
+  settled_stage contents job status.Memory decomposed h = absurd h
+  settled_stage contents job status.Cert decomposed h = elim h [ inl out ↦ cert_stage contents job out.0 out.1 | inr r ↦ refused_stage contents job r.0 decomposed r.1 ]
+  settled_stage contents job status.TooLong decomposed h = too_long_stage contents job h.0 h.1
+
+  -- the files show a verdict: so no other status is settled
+  pub done_settled : (held : Option Contents) (job : Job) (holding : Holding) → Decomposes held job → Shown held job holding → EndsSettled held job status.Done
+  done_settled None job holding decomposed shown = tt
+  done_settled (Some contents) job holding decomposed shown = λ s h. inl (one_status contents job status.Done s (proven_stage contents job (proven contents job holding shown)) (settled_stage contents job s decomposed h))
+
+  -- a refusal with its cause at a stage: so no other status is settled
+  at_stage : (contents : Contents) (job : Job) (t : Status) → Decomposes (Some contents) job → HasStage contents job t → EndsSettled (Some contents) job t
+  at_stage contents job t decomposed stage = λ s h. inl (one_status contents job t s stage (settled_stage contents job s decomposed h))
+
+  -- an end before the model and the partition are accepted: nothing is accepted
+  early_stage : (contents : Contents) (job : Job) (t : Status) (stage : HasStage contents job t) → stage.stage < 4 → EndsSettled (Some contents) job t
+  early_stage contents job t stage early = at_stage contents job t (λ d a. absurd (stage.ends.fails (before_cert contents job (d, a) stage.stage early))) stage
+
+  -- a refusal with its cause: so no other status is settled
+  pub refusal_settled : (held : Option Contents) (job : Job) (r : Refusal) → IsEarly r ⊎ Decomposes held job → IsCause held job r → EndsSettled held job (status_of r)
+  refusal_settled None job r end cause = tt
+  refusal_settled (Some contents) job refusal.Model end cause = early_stage contents job status.Model (model_stage contents job cause) (omega arith)
+  refusal_settled (Some contents) job refusal.Part end cause = early_stage contents job status.Part (part_stage contents job cause) (omega arith)
+  refusal_settled (Some contents) job (refusal.Cert f) (inl early) cause = absurd early
+  refusal_settled (Some contents) job (refusal.Cert f) (inr decomposed) cause = at_stage contents job status.Cert decomposed (cert_stage contents job f cause)
+  refusal_settled (Some contents) job (refusal.Check f) (inl early) cause = absurd early
+  refusal_settled (Some contents) job (refusal.Check f) (inr decomposed) cause = at_stage contents job status.Cert decomposed (refused_stage contents job f decomposed cause)
+  refusal_settled (Some contents) job (refusal.Read file) end cause = λ s h. inr (inl refl)
+  refusal_settled (Some contents) job (refusal.TooLong ModelFile) end cause = early_stage contents job status.TooLong (too_long_stage contents job ModelFile cause) (omega arith)
+  refusal_settled (Some contents) job (refusal.TooLong PartFile) end cause = early_stage contents job status.TooLong (too_long_stage contents job PartFile cause) (omega arith)
+  refusal_settled (Some contents) job (refusal.TooLong CertFile) (inl early) cause = absurd early
+  refusal_settled (Some contents) job (refusal.TooLong CertFile) (inr decomposed) cause = at_stage contents job status.TooLong decomposed (too_long_stage contents job CertFile cause)
+  refusal_settled (Some contents) job refusal.Memory end cause = λ s h. inr (inr (inr refl))
 
 broken_of : (held : Option Contents) (job : Job) (ends : Status) → IsCutShort ends → EndsSettled held job ends
 broken_of None job ends b = tt
@@ -201,15 +252,6 @@ broken_of (Some contents) job ends b = λ s h. inr b
 -- a write that failed settles nothing
 pub write_settled : (held : Option Contents) (job : Job) → EndsSettled held job status.Write
 write_settled held job = broken_of held job status.Write (inr (inl refl))
-
--- a refusal with its cause: so no other status is settled
-pub refusal_settled : (held : Option Contents) (job : Job) (r : Refusal) → IsCause held job r → EndsSettled held job (status_of r)
-refusal_settled None job r cause = tt
-refusal_settled (Some contents) job (Form file) cause = λ s h. inl (one_status contents job _ s (outside_stage contents job file cause) (settled_stage contents job s h))
-refusal_settled (Some contents) job Check cause = λ s h. inl (one_status contents job status.Cert s (refused_stage contents job cause) (settled_stage contents job s h))
-refusal_settled (Some contents) job (Read file) cause = λ s h. inr (inl refl)
-refusal_settled (Some contents) job (TooLong file) cause = λ s h. inl (one_status contents job status.TooLong s (too_long_stage contents job file cause) (settled_stage contents job s h))
-refusal_settled (Some contents) job Memory cause = λ s h. inr (inr (inr refl))
 
 -- the status after the last text settles no more than it did before
 pub after_settled : {T E : Type 0} (put : Result T E) (held : Option Contents) (job : Job) (s : Status) → EndsSettled held job s → EndsSettled held job (status_after put s)

@@ -8,7 +8,7 @@ use Rattle.bz_top.specs.declared.status.Status.{Status}
 use Rattle.bz_top.specs.declared.status.Status.TheVariants as status
 use Rattle.bz_top.specs.declared.job.Job.{Job}
 use Rattle.bz_top.specs.declared.job.Job.TheVariants.{Check}
-use Rattle.bz_top.specs.Texts.{line}
+use Rattle.bz_top.specs.Texts.{line, cert_fault, check_fault, check_word}
 
 -- the number of a status
 abbrev pub number_of : Status → ℕ
@@ -31,40 +31,34 @@ name_of (Check model part cert) CertFile = cert
 
 -- the status of a refusal
 abbrev pub status_of : Refusal → Status
-status_of (refusal.Form ModelFile) = status.Model
-status_of (refusal.Form PartFile) = status.Part
-status_of (refusal.Form CertFile) = status.Cert
-status_of refusal.Check = status.Cert
+status_of refusal.Model = status.Model
+status_of refusal.Part = status.Part
+status_of (refusal.Cert fault) = status.Cert
+status_of (refusal.Check fault) = status.Cert
 status_of (refusal.Read file) = status.Read
 status_of (refusal.TooLong file) = status.TooLong
 status_of refusal.Memory = status.Memory
 
--- what the text of a refusal begins with
-abbrev pub refusal_head : Refusal → List ℕ
-refusal_head (refusal.Form ModelFile) = codes "model: outside the first form"
-refusal_head (refusal.Form PartFile) = codes "partition: outside the first form"
-refusal_head (refusal.Form CertFile) = codes "certificate: outside the first form"
-refusal_head refusal.Check = codes "certificate: refused"
-refusal_head (refusal.Read file) = codes "read fault: "
-refusal_head (refusal.TooLong file) = codes "too long: "
-refusal_head refusal.Memory = codes "out of memory"
-
--- the name in the text of a refusal: that of the file where it is of a load
-abbrev pub refusal_name : Refusal → List ℕ → List ℕ
-refusal_name (refusal.Form file) name = []
-refusal_name refusal.Check name = []
-refusal_name (refusal.Read file) name = name
-refusal_name (refusal.TooLong file) name = name
-refusal_name refusal.Memory name = []
+-- what is printed of a refusal of the file with the name
+abbrev pub refusal_words : Refusal → List ℕ → List ℕ
+refusal_words refusal.Model name = codes "model: outside the first form"
+refusal_words refusal.Part name = codes "partition: outside the first form"
+refusal_words (refusal.Cert fault) name = cert_fault fault
+refusal_words (refusal.Check fault) name = check_word (check_fault fault)
+refusal_words (refusal.Read file) name = codes "read fault: " ++ name
+refusal_words (refusal.TooLong file) name = codes "too long: " ++ name
+refusal_words refusal.Memory name = codes "out of memory"
 
 -- the text of a refusal of the file with the name
 abbrev pub refusal_text : Refusal → List ℕ → List ℕ
-refusal_text refusal name = line (refusal_head refusal ++ refusal_name refusal name)
+refusal_text refusal name = line (refusal_words refusal name)
 
 -- the file that a refusal is of; the model's where it is of none
 abbrev pub file_of : Refusal → File
-file_of (refusal.Form file) = file
-file_of refusal.Check = CertFile
+file_of refusal.Model = ModelFile
+file_of refusal.Part = PartFile
+file_of (refusal.Cert fault) = CertFile
+file_of (refusal.Check fault) = CertFile
 file_of (refusal.Read file) = file
 file_of (refusal.TooLong file) = file
 file_of refusal.Memory = ModelFile

@@ -1,4 +1,5 @@
 pub mod Claims
 pub mod Ends
 pub mod Jobs
+pub mod Pieces
 pub mod Texts

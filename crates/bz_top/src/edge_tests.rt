@@ -10,10 +10,6 @@ const NO_MODEL: &str = "model: outside the first form\n";
 
 const NO_PART: &str = "partition: outside the first form\n";
 
-const NO_CERT: &str = "certificate: outside the first form\n";
-
-const REFUSED: &str = "certificate: refused\n";
-
 /// A text of the smallest check with other lines in the place of some, and how the check ends.
 #[derive(Clone, Copy)]
 struct Edge {
@@ -290,147 +286,147 @@ const CERT_EDGES: [Edge; 21] = [
         old: "end\n",
         new: "end",
         status: Status::Cert,
-        text: NO_CERT,
+        text: "certificate line 10: 7 End\n",
     },
     // a line behind the end
     Edge {
         old: "end\n",
         new: "end\n\n",
         status: Status::Cert,
-        text: NO_CERT,
+        text: "certificate line 11: 7 End\n",
     },
     // a sign in front of a number
     Edge {
         old: "value 1\n",
         new: "value +1\n",
         status: Status::Cert,
-        text: NO_CERT,
+        text: "certificate line 6: 4 Number\n",
     },
     // a zero in front of a number
     Edge {
         old: "value 1\n",
         new: "value 01\n",
         status: Status::Cert,
-        text: NO_CERT,
+        text: "certificate line 6: 4 Number\n",
     },
     // a zero with a sign
     Edge {
         old: "eta 0\n",
         new: "eta -0\n",
         status: Status::Cert,
-        text: NO_CERT,
+        text: "certificate line 4: 4 Number\n",
     },
-    // a number of 19 digits
+    // a number of 19 digits, which is not the point's
     Edge {
         old: "value 1\n",
         new: "value 1000000000000000000\n",
         status: Status::Cert,
-        text: NO_CERT,
+        text: "certificate: Value\n",
     },
     // a tab between fields
     Edge {
         old: "value 1\n",
         new: "value\t1\n",
         status: Status::Cert,
-        text: NO_CERT,
+        text: "certificate line 6: 3 Line\n",
     },
     // a carriage return before a line feed
     Edge {
         old: "value 1\n",
         new: "value 1\r\n",
         status: Status::Cert,
-        text: NO_CERT,
+        text: "certificate line 6: 4 Number\n",
     },
     // eta comes twice
     Edge {
         old: "eta 0\n",
         new: "eta 0\neta 0\n",
         status: Status::Cert,
-        text: NO_CERT,
+        text: "certificate line 5: 3 Line\n",
     },
     // another verdict
     Edge {
         old: "verdict optimal\n",
         new: "verdict infeasible\n",
         status: Status::Cert,
-        text: NO_CERT,
+        text: "certificate line 3: 3 Line\n",
     },
     // a list whose indexes do not rise
     Edge {
         old: "leaf 1 1 2 0 1 2 1\n",
         new: "leaf 1 1 2 2 1 0 1\n",
         status: Status::Cert,
-        text: NO_CERT,
+        text: "certificate line 9: 5 Order\n",
     },
     // a list with a zero
     Edge {
         old: "leaf 1 1 2 0 1 2 1\n",
         new: "leaf 1 1 3 0 1 1 0 2 1\n",
         status: Status::Cert,
-        text: NO_CERT,
+        text: "certificate line 9: 5 Order\n",
     },
     // a block that is numbered 2
     Edge {
         old: "block 1 1 0\n",
         new: "block 2 1 0\n",
         status: Status::Cert,
-        text: NO_CERT,
+        text: "certificate line 5: 5 Order\n",
     },
     // one cut fewer than told
     Edge {
         old: "cuts 1\n",
         new: "cuts 2\n",
         status: Status::Cert,
-        text: NO_CERT,
+        text: "certificate line 9: 3 Line\n",
     },
     // a cut of block 2, which no leaf uses
     Edge {
         old: "cuts 1\ncut 1 1 -2 1 1 0 -2 1 0 2\n",
         new: "cuts 2\ncut 1 1 -2 1 1 0 -2 1 0 2\ncut 2 0 0 1 0 0\n",
         status: Status::Cert,
-        text: REFUSED,
+        text: "certificate: Cut 1\n",
     },
     // a cut whose right side is too small, with the leaf that would follow
     Edge {
         old: "cut 1 1 -2 1 1 0 -2 1 0 2\nleaf 1 1 2 0 1 2 1\n",
         new: "cut 1 1 -3 1 1 0 -2 1 0 2\nleaf 1 2 2 0 1 2 1\n",
         status: Status::Cert,
-        text: REFUSED,
+        text: "certificate: Cut 0\n",
     },
     // a leaf with a multiplier of a side that isn't there
     Edge {
         old: "leaf 1 1 2 0 1 2 1\n",
         new: "leaf 1 1 3 0 1 2 1 3 1\n",
         status: Status::Cert,
-        text: REFUSED,
+        text: "certificate: Leaf 0\n",
     },
     // a leaf with a bound that its sides don't give
     Edge {
         old: "leaf 1 1 2 0 1 2 1\n",
         new: "leaf 1 1 2 0 1 2 2\n",
         status: Status::Cert,
-        text: REFUSED,
+        text: "certificate: Leaf 0\n",
     },
     // a value that isn't the point's
     Edge {
         old: "value 1\n",
         new: "value 0\n",
         status: Status::Cert,
-        text: REFUSED,
+        text: "certificate: Value\n",
     },
     // a point that misses the row
     Edge {
         old: "master 1 1\neta 0\nblock 1 1 0\nvalue 1\n",
         new: "master 1 0\neta 0\nblock 1 1 0\nvalue 0\n",
         status: Status::Cert,
-        text: REFUSED,
+        text: "certificate: Point 1 0\n",
     },
     // a point with a number more
     Edge {
         old: "master 1 1\n",
         new: "master 1 1 1\n",
         status: Status::Cert,
-        text: REFUSED,
+        text: "certificate: Shape\n",
     },
 ];
 
@@ -508,9 +504,9 @@ fn takes_a_sum_at_the_limit_and_none_above(rt: HostRuntime) -> Result<(), Fail> 
             WIDE_MODEL,
             TOO_WIDE,
             Status::Cert,
-            b"certificate: refused\n",
+            b"certificate: Wide 5 0\n",
         ),
-        (HALF_MODEL, HALF, Status::Cert, b"certificate: refused\n"),
+        (HALF_MODEL, HALF, Status::Cert, b"certificate: Point 0 0\n"),
     ];
     for (model, cert, status, text) in all {
         let case = Case {

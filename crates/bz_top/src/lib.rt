@@ -4,12 +4,16 @@
 mod check;
 #[cfg(test)]
 mod edge_tests;
+mod holding;
 mod job;
+mod pieces;
 mod print;
 mod running;
 mod status;
 #[cfg(test)]
 mod tests;
+#[cfg(test)]
+mod verdict_tests;
 mod words;
 
 pub use job::{FileName, Job};

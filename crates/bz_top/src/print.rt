@@ -1,82 +1,189 @@
 //! The texts that the program prints. None of them takes memory.
-ghost use Rattle.std.specs.Prelude.{◌≡◌, ◌++◌, ℤ, pos, ◌<ℤ◌, OnOk, OnErr, codes, [], ◌∷◌};
-ghost use Rattle.bz_check.specs.Stated.{stated_fraction};
+ghost use Rattle.std.specs.Prelude.{◌≡◌, ◌++◌, OnOk, OnErr, pos};
 ghost use Rattle.bz_io.specs.Faults.{CountsFault};
 ghost use Rattle.bz_io.specs.Sink.{Takes, TakesPrefix};
 ghost use Rattle.bz_io.specs.Told.{WhereTold};
-ghost use Rattle.bz_top.specs.Ends.{refusal_head as head_of, refusal_name as name_in, refusal_text};
-ghost use Rattle.bz_top.specs.Texts.{line, over_text, holds_text, usage_text};
+ghost use Rattle.bz_top.specs.Ends.{refusal_text};
+ghost use Rattle.bz_top.specs.Texts.{cert_fault, check_fault, check_word, holds_text, kind_name as name_of_kind, kind_number as number_of_kind, line, numbered, usage_text};
 
-use crate::status::{File, Refusal};
-use bz_check::Stated;
+use crate::holding::Holding;
+use crate::pieces::Piece::{Number, Text};
+use crate::pieces::put_pieces;
+use crate::status::Refusal;
+use bz_cert::{CertFault, CertKind};
+use bz_check::{CheckFault, Stated};
 use bz_io::{PutFailed, Sink, put_all};
-use itoa::Buffer;
 
-/// Puts the three pieces, one after another.
-fn put_three<O: Sink>(
-    out: &mut O,
-    first: &[u8],
-    second: &[u8],
-    third: &[u8],
-) -> Result<(), PutFailed>
-    ensures ok { OnOk result (WhereTold (Takes (first.now ++ second.now ++ third.now)) (O.taken out.old) (O.taken out.new)) }
-    ensures failed { OnErr result (WhereTold (TakesPrefix (first.now ++ second.now ++ third.now)) (O.taken out.old) (O.taken out.new)) }
+/// Puts the line of a certificate of an optimum that holds.
+fn put_optimal<O: Sink>(out: &mut O, stated: Stated) -> Result<(), PutFailed>
+    ensures ok { OnOk result (WhereTold (Takes (holds_text (Holding.Optimal stated))) (O.taken out.old) (O.taken out.new)) }
+    ensures failed { OnErr result (WhereTold (TakesPrefix (holds_text (Holding.Optimal stated))) (O.taken out.old) (O.taken out.new)) }
     ensures count { CountsFault result (O.faults out.old) (O.faults out.new) }
 {
-    put_all(out, first)?;
-    put_all(out, second)?;
-    put_all(out, third)
-}
-
-/// Puts what stands behind a numerator, and a line feed.
-fn put_over<O: Sink>(out: &mut O, den: i128) -> Result<(), PutFailed>
-    requires { pos 0 <ℤ den }
-    ensures ok { OnOk result (WhereTold (Takes (line (over_text den))) (O.taken out.old) (O.taken out.new)) }
-    ensures failed { OnErr result (WhereTold (TakesPrefix (line (over_text den))) (O.taken out.old) (O.taken out.new)) }
-    ensures count { CountsFault result (O.faults out.old) (O.faults out.new) }
-{
-    if den == 1 {
-        return put_all(out, b"\n");
+    let front = Text(b"certificate holds: optimal ");
+    if stated.den == 1 {
+        return put_pieces(out, &[front, Number(stated.num), Text(b"\n")]);
     }
-    let mut buffer = Buffer::new();
-    put_three(out, b"/", buffer.format(den).as_bytes(), b"\n")
+    put_pieces(
+        out,
+        &[
+            front,
+            Number(stated.num),
+            Text(b"/"),
+            Number(stated.den),
+            Text(b"\n"),
+        ],
+    )
 }
 
-/// Puts the line of a certificate that holds, with the stated objective.
-pub(crate) fn put_holds<O: Sink>(out: &mut O, stated: Stated) -> Result<(), PutFailed>
-    ensures ok { OnOk result (WhereTold (Takes (holds_text (stated_fraction stated))) (O.taken out.old) (O.taken out.new)) }
-    ensures failed { OnErr result (WhereTold (TakesPrefix (holds_text (stated_fraction stated))) (O.taken out.old) (O.taken out.new)) }
+/// Puts the line of a certificate that holds.
+pub(crate) fn put_holds<O: Sink>(out: &mut O, holding: Holding) -> Result<(), PutFailed>
+    ensures ok { OnOk result (WhereTold (Takes (holds_text holding)) (O.taken out.old) (O.taken out.new)) }
+    ensures failed { OnErr result (WhereTold (TakesPrefix (holds_text holding)) (O.taken out.old) (O.taken out.new)) }
     ensures count { CountsFault result (O.faults out.old) (O.faults out.new) }
 {
-    let mut buffer = Buffer::new();
-    put_all(out, b"certificate holds: optimal ")?;
-    put_all(out, buffer.format(stated.num).as_bytes())?;
-    put_over(out, stated.den)
-}
-
-/// What the text of a refusal begins with.
-fn refusal_head(refusal: Refusal) -> &'static [u8]
-    ensures { result.now ≡ head_of refusal }
-{
-    match refusal {
-        Refusal::Form(File::Model) => b"model: outside the first form",
-        Refusal::Form(File::Part) => b"partition: outside the first form",
-        Refusal::Form(File::Cert) => b"certificate: outside the first form",
-        Refusal::Check => b"certificate: refused",
-        Refusal::Read(_) => b"read fault: ",
-        Refusal::TooLong(_) => b"too long: ",
-        Refusal::Memory => b"out of memory",
+    match holding {
+        Holding::Optimal(stated) => put_optimal(out, stated),
+        Holding::Infeasible => put_all(out, b"certificate holds: infeasible\n"),
+        Holding::Unbounded => put_all(out, b"certificate holds: unbounded\n"),
     }
 }
 
-/// The name in the text of a refusal, where it has one.
-fn refusal_name(refusal: Refusal, name: &str) -> &[u8]
-    ensures { result.now ≡ name_in refusal name.now }
+/// The number of a kind of fault.
+fn kind_number(kind: CertKind) -> i128
+    ensures { result ≡ pos (number_of_kind kind) }
 {
-    match refusal {
-        Refusal::Read(_) | Refusal::TooLong(_) => name.as_bytes(),
-        _ => b"",
+    match kind {
+        CertKind::Head => 1,
+        CertKind::Verdict => 2,
+        CertKind::Line => 3,
+        CertKind::Number => 4,
+        CertKind::Order => 5,
+        CertKind::Tree => 6,
+        CertKind::End => 7,
+        CertKind::Limit => 8,
     }
+}
+
+/// The name of a kind of fault.
+fn kind_name(kind: CertKind) -> &'static [u8]
+    ensures { result.now ≡ name_of_kind kind }
+{
+    match kind {
+        CertKind::Head => b"Head",
+        CertKind::Verdict => b"Verdict",
+        CertKind::Line => b"Line",
+        CertKind::Number => b"Number",
+        CertKind::Order => b"Order",
+        CertKind::Tree => b"Tree",
+        CertKind::End => b"End",
+        CertKind::Limit => b"Limit",
+    }
+}
+
+/// Puts the line of a fault of a certificate's text.
+fn put_cert_fault<O: Sink>(out: &mut O, fault: CertFault) -> Result<(), PutFailed>
+    ensures ok { OnOk result (WhereTold (Takes (line (cert_fault fault))) (O.taken out.old) (O.taken out.new)) }
+    ensures failed { OnErr result (WhereTold (TakesPrefix (line (cert_fault fault))) (O.taken out.old) (O.taken out.new)) }
+    ensures count { CountsFault result (O.faults out.old) (O.faults out.new) }
+{
+    put_pieces(
+        out,
+        &[
+            Text(b"certificate line "),
+            Number(i128::from(fault.line)),
+            Text(b": "),
+            Number(kind_number(fault.kind)),
+            Text(b" "),
+            Text(kind_name(fault.kind)),
+            Text(b"\n"),
+        ],
+    )
+}
+
+/// Puts a word of the check with no number.
+fn put_word<O: Sink>(out: &mut O, word: &[u8]) -> Result<(), PutFailed>
+    ensures ok { OnOk result (WhereTold (Takes (line (check_word word.now))) (O.taken out.old) (O.taken out.new)) }
+    ensures failed { OnErr result (WhereTold (TakesPrefix (line (check_word word.now))) (O.taken out.old) (O.taken out.new)) }
+    ensures count { CountsFault result (O.faults out.old) (O.faults out.new) }
+{
+    put_pieces(out, &[Text(b"certificate: "), Text(word), Text(b"\n")])
+}
+
+/// Puts a word of the check with one number.
+fn put_one<O: Sink>(out: &mut O, word: &[u8], at: u32) -> Result<(), PutFailed>
+    ensures ok { OnOk result (WhereTold (Takes (line (check_word (word.now ++ numbered at)))) (O.taken out.old) (O.taken out.new)) }
+    ensures failed { OnErr result (WhereTold (TakesPrefix (line (check_word (word.now ++ numbered at)))) (O.taken out.old) (O.taken out.new)) }
+    ensures count { CountsFault result (O.faults out.old) (O.faults out.new) }
+{
+    put_pieces(
+        out,
+        &[
+            Text(b"certificate: "),
+            Text(word),
+            Text(b" "),
+            Number(i128::from(at)),
+            Text(b"\n"),
+        ],
+    )
+}
+
+/// Puts a word of the check with two numbers.
+fn put_two<O: Sink>(out: &mut O, word: &[u8], first: u32, at: u32) -> Result<(), PutFailed>
+    ensures ok { OnOk result (WhereTold (Takes (line (check_word (word.now ++ numbered first ++ numbered at)))) (O.taken out.old) (O.taken out.new)) }
+    ensures failed { OnErr result (WhereTold (TakesPrefix (line (check_word (word.now ++ numbered first ++ numbered at)))) (O.taken out.old) (O.taken out.new)) }
+    ensures count { CountsFault result (O.faults out.old) (O.faults out.new) }
+{
+    put_pieces(
+        out,
+        &[
+            Text(b"certificate: "),
+            Text(word),
+            Text(b" "),
+            Number(i128::from(first)),
+            Text(b" "),
+            Number(i128::from(at)),
+            Text(b"\n"),
+        ],
+    )
+}
+
+/// Puts the line of a fault of the check.
+fn put_check_fault<O: Sink>(out: &mut O, fault: CheckFault) -> Result<(), PutFailed>
+    ensures ok { OnOk result (WhereTold (Takes (line (check_word (check_fault fault)))) (O.taken out.old) (O.taken out.new)) }
+    ensures failed { OnErr result (WhereTold (TakesPrefix (line (check_word (check_fault fault)))) (O.taken out.old) (O.taken out.new)) }
+    ensures count { CountsFault result (O.faults out.old) (O.faults out.new) }
+{
+    match fault {
+        CheckFault::Shape => put_word(out, b"Shape"),
+        CheckFault::Point { part, at } => put_two(out, b"Point", part, at),
+        CheckFault::Cost { block } => put_one(out, b"Cost", block),
+        CheckFault::Value => put_word(out, b"Value"),
+        CheckFault::Ray => put_word(out, b"Ray"),
+        CheckFault::Cut { i } => put_one(out, b"Cut", i),
+        CheckFault::Cover { node } => put_one(out, b"Cover", node),
+        CheckFault::Leaf { node } => put_one(out, b"Leaf", node),
+        CheckFault::Wide { list, at } => put_two(out, b"Wide", list, at),
+        CheckFault::OutOfMemory => put_word(out, b""),
+    }
+}
+
+/// Puts the text and a line feed.
+fn put_line<O: Sink>(out: &mut O, text: &[u8]) -> Result<(), PutFailed>
+    ensures ok { OnOk result (WhereTold (Takes (line text.now)) (O.taken out.old) (O.taken out.new)) }
+    ensures failed { OnErr result (WhereTold (TakesPrefix (line text.now)) (O.taken out.old) (O.taken out.new)) }
+    ensures count { CountsFault result (O.faults out.old) (O.faults out.new) }
+{
+    put_pieces(out, &[Text(text), Text(b"\n")])
+}
+
+/// Puts the text, a name and a line feed.
+fn put_named<'x, O: Sink>(out: &mut O, text: &'x [u8], name: &'x str) -> Result<(), PutFailed>
+    ensures ok { OnOk result (WhereTold (Takes (line (text.now ++ name.now))) (O.taken out.old) (O.taken out.new)) }
+    ensures failed { OnErr result (WhereTold (TakesPrefix (line (text.now ++ name.now))) (O.taken out.old) (O.taken out.new)) }
+    ensures count { CountsFault result (O.faults out.old) (O.faults out.new) }
+{
+    put_pieces(out, &[Text(text), Text(name.as_bytes()), Text(b"\n")])
 }
 
 /// Puts the text of a refusal. `name` is that of the file which it is of.
@@ -89,12 +196,15 @@ pub(crate) fn put_refusal<O: Sink>(
     ensures failed { OnErr result (WhereTold (TakesPrefix (refusal_text refusal name.now)) (O.taken out.old) (O.taken out.new)) }
     ensures count { CountsFault result (O.faults out.old) (O.faults out.new) }
 {
-    put_three(
-        out,
-        refusal_head(refusal),
-        refusal_name(refusal, name),
-        b"\n",
-    )
+    match refusal {
+        Refusal::Model => put_line(out, b"model: outside the first form"),
+        Refusal::Part => put_line(out, b"partition: outside the first form"),
+        Refusal::Cert(fault) => put_cert_fault(out, fault),
+        Refusal::Check(fault) => put_check_fault(out, fault),
+        Refusal::Read(_) => put_named(out, b"read fault: ", name),
+        Refusal::TooLong(_) => put_named(out, b"too long: ", name),
+        Refusal::Memory => put_line(out, b"out of memory"),
+    }
 }
 
 /// Puts the usage line.

@@ -5,7 +5,7 @@ ghost use Rattle.bz_io.specs.Desk.{IsSame};
 ghost use Rattle.bz_io.specs.Faults.{HasRisen};
 ghost use Rattle.bz_io.specs.Sink.{Takes};
 ghost use Rattle.bz_io.specs.Told.{WhereTold};
-ghost use Rattle.bz_top.specs.Claims.{EndsSettled, EndsSettledAsked, ShowsOptimumOf, ShowsOptimumAsked, RefusesJob, RefusesAsked, BreaksOff, BreaksOffAsked, BreaksOffUsage};
+ghost use Rattle.bz_top.specs.Claims.{EndsSettled, EndsSettledAsked, ShowsVerdictOf, ShowsVerdictAsked, RefusesJob, RefusesAsked, BreaksOff, BreaksOffAsked, BreaksOffUsage};
 ghost use Rattle.bz_top.specs.Ends.{status_after as after_put, IsRefused};
 ghost use Rattle.bz_top.specs.Jobs.{IsJobless};
 ghost use Rattle.bz_top.specs.Texts.{usage_text};
@@ -30,8 +30,9 @@ fn status_after(put: Result<(), PutFailed>, status: Status) -> Status
 
 /// Does the job: checks the certificate, and prints whether it holds.
 pub fn do_alone<D: Desk, O: Sink>(alloc: Global, job: &Job, desk: &mut D, out: &mut O) -> Status
-    // The point of the certificate is optimal in the model, and the printed number is its objective.
-    ensures done { result ≡ Status.Done → ShowsOptimumOf (D.held desk.old) job.now (O.taken out.old) (O.taken out.new) }
+    // What the line says is true of the model: the point of the certificate is optimal and the printed number is its
+    // objective, or no point is feasible, or for each number some feasible point is better.
+    ensures done { result ≡ Status.Done → ShowsVerdictOf (D.held desk.old) job.now (O.taken out.old) (O.taken out.new) }
 
     // Every other status is that of a refusal with its cause and its text, or a text could not be put whole.
     ensures never { (result ≢ Status.Usage) × (result ≢ Status.Unresolved) }
@@ -51,7 +52,7 @@ pub fn do_alone<D: Desk, O: Sink>(alloc: Global, job: &Job, desk: &mut D, out: &
     ensures kept { WhereTold IsSame (D.held desk.old) (D.held desk.new) }
 {
     match check_files(alloc, job, desk) {
-        Ok(stated) => status_after(put_holds(out, stated), Status::Done),
+        Ok(holding) => status_after(put_holds(out, holding), Status::Done),
         Err(refusal) => status_after(
             put_refusal(out, refusal, file_name(job, refusal.file())),
             refusal.status(),
@@ -61,9 +62,10 @@ pub fn do_alone<D: Desk, O: Sink>(alloc: Global, job: &Job, desk: &mut D, out: &
 
 /// Does what the words ask for. This is all that the program does.
 pub fn run<D: Desk, O: Sink>(alloc: Global, words: &[String], desk: &mut D, out: &mut O) -> Status
-    // The words ask for the check of three files. The point of the certificate is optimal in the model, and the
-    // printed number is its objective.
-    ensures done { result ≡ Status.Done → ShowsOptimumAsked (map string_bytes words.now) (D.held desk.old) (O.taken out.old) (O.taken out.new) }
+    // The words ask for the check of three files, and what the line says is true of the model: the point of the
+    // certificate is optimal and the printed number is its objective, or no point is feasible, or for each number some
+    // feasible point is better.
+    ensures done { result ≡ Status.Done → ShowsVerdictAsked (map string_bytes words.now) (D.held desk.old) (O.taken out.old) (O.taken out.new) }
 
     // Words without a job are refused, and no others. The desk then has no fault; as any load may have one, none is made.
     ensures usage { result ≡ Status.Usage → IsJobless (map string_bytes words.now) }

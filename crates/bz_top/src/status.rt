@@ -2,6 +2,9 @@
 ghost use Rattle.std.specs.Prelude.{◌≡◌, ◌<◌};
 ghost use Rattle.bz_top.specs.Ends.{number_of};
 
+use bz_cert::CertFault;
+use bz_check::CheckFault;
+
 /// How the program ends.
 #[derive(Clone, Copy, Debug, PartialEq, Eq)]
 pub enum Status {
@@ -58,10 +61,14 @@ pub(crate) enum File {
 /// Why a check ends without a verdict.
 #[derive(Clone, Copy, Debug, PartialEq, Eq)]
 pub(crate) enum Refusal {
-    /// The text is not of its first form, or the partition is not strict.
-    Form(File),
+    /// The model's text is not of its first form.
+    Model,
+    /// The partition's text is not of its first form, or the partition is not strict.
+    Part,
+    /// The text is no certificate's.
+    Cert(CertFault),
     /// The certificate does not pass, or its numbers do not fit.
-    Check,
+    Check(CheckFault),
     /// The load of a file failed.
     Read(File),
     /// A file is longer than its limit.
@@ -78,9 +85,9 @@ impl Refusal {
         ensures { result ≡ status_of self }
     {
         match self {
-            Refusal::Form(File::Model) => Status::Model,
-            Refusal::Form(File::Part) => Status::Part,
-            Refusal::Form(File::Cert) | Refusal::Check => Status::Cert,
+            Refusal::Model => Status::Model,
+            Refusal::Part => Status::Part,
+            Refusal::Cert(_) | Refusal::Check(_) => Status::Cert,
             Refusal::Read(_) => Status::Read,
             Refusal::TooLong(_) => Status::TooLong,
             Refusal::Memory => Status::Memory,
@@ -92,9 +99,10 @@ impl Refusal {
         ensures { result ≡ file_of self }
     {
         match self {
-            Refusal::Form(file) | Refusal::Read(file) | Refusal::TooLong(file) => file,
-            Refusal::Check => File::Cert,
-            Refusal::Memory => File::Model,
+            Refusal::Read(file) | Refusal::TooLong(file) => file,
+            Refusal::Cert(_) | Refusal::Check(_) => File::Cert,
+            Refusal::Part => File::Part,
+            Refusal::Model | Refusal::Memory => File::Model,
         }
     }
 }

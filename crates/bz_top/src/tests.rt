@@ -87,7 +87,7 @@ fn refuses_a_bound_that_the_leaf_does_not_show(rt: HostRuntime) -> Result<(), Fa
     };
     let (status, printed) = ends(rt.alloc(), &["check", "m", "p", "c"], &case)?;
     assert_eq!(rt; status, Status::Cert);
-    assert_eq!(rt; printed.as_slice(), b"certificate: refused\n".as_slice());
+    assert_eq!(rt; printed.as_slice(), b"certificate: Leaf 0\n".as_slice());
     Ok(())
 }
 

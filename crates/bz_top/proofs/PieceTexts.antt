@@ -1,0 +1,48 @@
+-- Putting pieces one after another puts their whole text.
+use Rattle.std.proofs.Common.{◌≡◌, ℕ, ◌+◌, ◌<◌, ◌≤◌, List, [], ◌++◌, length, get_or, drop, Option, Some, None, ap, sym, subst}
+use Rattle.std.proofs.lemmas.List.{append-nil}
+use Rattle.std.specs.Prelude.{Result, Ok, Err, IsErr}
+use Rattle.bz_io.specs.Faults.{CountsFault, HasRisen}
+use Rattle.bz_io.specs.Sink.{Takes, TakesPrefix}
+use Rattle.bz_io.specs.Told.{WhereTold}
+use Rattle.bz_model.proofs.Sparse.{left_at, none_left}
+use Rattle.bz_top.specs.declared.pieces.Piece.{Piece}
+use Rattle.bz_top.specs.Pieces.{piece_text, pieces_text}
+use Rattle.bz_top.proofs.Puts.{prefix_before, prefix_behind, takes_behind}
+
+-- once the rest is taken behind what was taken so far, the whole is taken
+pub record Finishes (rest all : List ℕ) (first then : Option (List ℕ)) : Type 0 where
+  pub whole : (now : Option (List ℕ)) → WhereTold (Takes rest) then now → WhereTold (Takes all) first now
+  pub part : (now : Option (List ℕ)) → WhereTold (TakesPrefix rest) then now → WhereTold (TakesPrefix all) first now
+
+pub starts : (all : List ℕ) (first : Option (List ℕ)) → Finishes all all first first
+starts all first = record { whole = λ now h. h; part = λ now h. h }
+
+-- one piece more
+pub goes_on : (piece rest all : List ℕ) (first then later : Option (List ℕ)) → Finishes (piece ++ rest) all first then → WhereTold (Takes piece) then later → Finishes rest all first later
+goes_on piece rest all first then later f taken = record {
+  whole = λ now h. f.whole now (takes_behind piece rest then later now taken h);
+  part = λ now h. f.part now (prefix_behind piece rest then later now taken h);
+}
+
+pub breaks_off : (piece rest all : List ℕ) (first then now : Option (List ℕ)) → Finishes (piece ++ rest) all first then → WhereTold (TakesPrefix piece) then now → WhereTold (TakesPrefix all) first now
+breaks_off piece rest all first then now f taken = f.part now (prefix_before piece rest then now taken)
+
+nothing_more : (then : Option (List ℕ)) → WhereTold (Takes []) then then
+nothing_more None = tt
+nothing_more (Some bytes) = sym (append-nil bytes)
+
+pub ends : (all : List ℕ) (first then : Option (List ℕ)) → Finishes [] all first then → WhereTold (Takes all) first then
+ends all first then f = f.whole then (nothing_more then)
+
+-- the text of what is left of some pieces
+pub text_next : (pieces : List Piece) (i : ℕ) (d : Piece) → i < length pieces → pieces_text (drop i pieces) ≡ piece_text (get_or pieces i d) ++ pieces_text (drop (i + 1) pieces)
+text_next pieces i d l = ap pieces_text (left_at pieces i d l)
+
+pub text_none : (pieces : List Piece) (i : ℕ) → length pieces ≤ i → pieces_text (drop i pieces) ≡ []
+text_none pieces i l = ap pieces_text (none_left pieces i l)
+
+-- a call that failed has raised the count
+pub counts_failed : {T E : Type 0} (r : Result T E) (before after : ℕ) → IsErr r → HasRisen before after → CountsFault r before after
+counts_failed (Ok _) before after f h = absurd cc
+counts_failed (Err _) before after f h = h
