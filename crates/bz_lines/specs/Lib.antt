@@ -2,5 +2,6 @@ pub mod FieldLists
 pub mod Lines
 pub mod LinesBefore
 pub mod NameLists
+pub mod NumberedLines
 pub mod Reading
 pub mod SmallNumbers
