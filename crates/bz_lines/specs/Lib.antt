@@ -1,4 +1,6 @@
 pub mod FieldLists
+pub mod LineReader
+pub mod LineReading
 pub mod Lines
 pub mod LinesBefore
 pub mod NameLists
