@@ -1,4 +1,5 @@
 pub mod FieldLists
+pub mod FirstFault
 pub mod LineReader
 pub mod LineReading
 pub mod Lines
