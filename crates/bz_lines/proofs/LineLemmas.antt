@@ -1,5 +1,5 @@
 -- A text and its first line.
-use Rattle.std.proofs.Common.{ℕ, zero, suc, ◌+◌, ◌-◌, ◌<◌, ◌≤◌, ◌&&◌, Bool, true, false, not, List, [], ◌∷◌, ◌++◌, ◌≡◌, ◌∙◌, ap, sym, refl, take, drop, map, arith, Option, Some, None, Result, Ok, Err, Bor, IfOk, cond}
+use Rattle.std.proofs.Common.{ℕ, suc, ◌+◌, ◌-◌, ◌<◌, ◌≤◌, ◌&&◌, Bool, true, false, not, List, [], ◌∷◌, ◌≡◌, ◌∙◌, ap, sym, refl, take, drop, map, arith, Option, Some, None, Result, Ok, Err, IfOk, cond}
 use Rattle.std.specs.Prelude.{length, filter, ◌==◌, nat_lt}
 use Rattle.std.specs.List.{slice_split, onto_first, position, position_or_len, list_all, enumerate_from}
 use Rattle.std.specs.Result.{MatchResult}
@@ -12,7 +12,7 @@ use Rattle.std.proofs.lemmas.List.{drop_all, take_rest}
 use Rattle.std.proofs.lemmas.List.Splits.{length-slice_split, slice_split_first}
 use Rattle.smallvec.specs.SmallVec.{SmallVec}
 use Rattle.bz_lines.specs.Lines.{fields_of, is_blank}
-use Rattle.bz_lines.specs.NumberedLines.{NumberedLine, is_kept, line_count, numbered_after, numbered_line}
+use Rattle.bz_lines.specs.NumberedLines.{is_kept, line_count, numbered_after, numbered_line}
 
 -- ---- the first piece between line feeds
 split_at : (p : ℕ → Bool) (xs : List ℕ) (i : ℕ) → position p xs ≡ Some i → slice_split p xs ≡ take i xs ∷ slice_split p (drop (i + 1) xs)

@@ -1,9 +1,8 @@
 -- A text says one partition, or it has one fault.
-use Rattle.std.proofs.Common.{ℕ, zero, suc, ◌+◌, ◌<◌, ◌≤◌, ◌⊎◌, inl, inr, List, [], ◌∷◌, ◌++◌, ◌≡◌, ◌∙◌, ap, sym, refl, subst, map, get_or, arith, Option, Some, None, Contains}
-use Rattle.std.specs.Prelude.{length}
+use Rattle.std.proofs.Common.{ℕ, zero, suc, ◌<◌, ◌≤◌, ◌⊎◌, inl, inr, List, [], ◌∷◌, ◌≡◌, ◌∙◌, ap, sym, refl, subst, map, arith, Option, Some, None, Contains}
 use Rattle.std.proofs.lemmas.Bool.{cases_eq, cases_lt, cases_order}
 use Rattle.std.proofs.lemmas.List.Elements.{Contains-append_cases, Contains-get_or, Contains-push_cases}
-use Rattle.bz_lines.specs.FirstFault.{IsFirstFault, first_fault}
+use Rattle.bz_lines.specs.FirstFault.{first_fault}
 use Rattle.bz_lines.specs.NumberedLines.{NumberedLine, numbered_lines}
 use Rattle.bz_lines.proofs.FirstFaults.{first_fault-none, first_fault-some, no_line_fails, some_line_fails}
 use Rattle.bz_model.specs.declared.records.Column.{Column}
@@ -11,7 +10,7 @@ use Rattle.bz_model.specs.declared.records.Model.{Model}
 use Rattle.bz_model.specs.Parting.{blocks_of}
 use Rattle.bz_part.specs.declared.faults.PartKind.{PartKind}
 use Rattle.bz_part.specs.declared.faults.PartKind.TheVariants.{Gap, Head}
-use Rattle.bz_part.specs.Partition.{Assigns, HasNoGap, IsFaultOfGap, IsFaultOfLine, IsGap, IsWithoutHead, PartFault, PartOf, names_of, part_by}
+use Rattle.bz_part.specs.Partition.{Assigns, IsFaultOfGap, IsFaultOfLine, IsGap, IsWithoutHead, PartFault, PartOf, names_of, part_by}
 use Rattle.bz_part.specs.PartitionLines.{part_tests}
 use Rattle.bz_part.proofs.PartitionLemmas.{gap_more}
 use Rattle.bz_part.proofs.PartitionTheorem.{contains_behind}

@@ -1,15 +1,13 @@
 -- Lemmas on the steps of reading a partition's text.
-use Rattle.std.proofs.Common.{ℕ, zero, suc, ◌+◌, ◌-◌, ◌*◌, ◌<◌, ◌≤◌, ◌⊎◌, ◌&&◌, Bool, true, false, not, cond, List, [], ◌∷◌, ◌++◌, ◌≡◌, ◌∙◌, ap, sym, refl, subst, get_or, take, drop, map, min, arith, Option, Some, None, Contains, Bor, inl, inr, Result, Ok, Err}
-use Rattle.std.specs.Prelude.{length, nat_lt, nat_le, bytes_eq}
+use Rattle.std.proofs.Common.{ℕ, ◌+◌, ◌-◌, ◌*◌, ◌<◌, ◌≤◌, ◌⊎◌, Bool, true, false, not, cond, List, [], ◌∷◌, ◌++◌, ◌≡◌, ◌∙◌, ap, sym, refl, subst, get_or, drop, map, min, arith, Option, Some, None, Contains, Bor, inl, inr, Result, Ok, Err}
+use Rattle.std.specs.Prelude.{length, nat_le, bytes_eq}
 use Rattle.std.specs.Char.{digit_value}
-use Rattle.std.specs.List.{list_all, list_any}
-use Rattle.std.specs.Str.Parse.{digits_value, digits_value_after}
-use Rattle.std.proofs.lemmas.Bool.{and_parts, leb-true, le-ltb, lt-ltb, ltb-true, ltb-false, cases_eq}
+use Rattle.std.specs.List.{list_all}
+use Rattle.std.specs.Str.Parse.{digits_value_after}
+use Rattle.std.proofs.lemmas.Bool.{and_parts, leb-true, le-ltb, lt-ltb, cases_eq}
 use Rattle.std.proofs.lemmas.List.{append-nil, append_assoc, drop_more, map-append}
 use Rattle.std.specs.Map.{lookup}
 use Rattle.std.specs.Prelude.{IsErrAnd, is_some, if◌then◌else◌, option_map, ◌||◌}
-use Rattle.indexmap.specs.IndexMap.{insert_entry}
-use Rattle.bz_lines.specs.FieldLists.{field}
 use Rattle.bz_lines.specs.FirstFault.{first_failing, first_fault}
 use Rattle.bz_lines.specs.LineReader.{LineReader, to_come}
 use Rattle.bz_lines.specs.LineReading.{BeginsRefused, NextLine, read_line}

@@ -1,27 +1,26 @@
 -- What the steps give of a whole text.
-use Rattle.std.proofs.Common.{ℕ, zero, suc, ◌+◌, ◌<◌, ◌≤◌, ◌⊎◌, inl, inr, ◌&&◌, ◌||◌, Bool, true, false, not, cond, List, [], ◌∷◌, ◌++◌, ◌≡◌, ◌∙◌, ap, sym, refl, subst, map, drop, get_or, arith, Option, Some, None, Result, Ok, Err, Contains}
+use Rattle.std.proofs.Common.{ℕ, ◌<◌, ◌≤◌, ◌⊎◌, inl, inr, Bool, true, false, not, cond, List, [], ◌∷◌, ◌++◌, ◌≡◌, ◌∙◌, ap, sym, refl, subst, map, drop, arith, Option, Some, None, Result, Ok, Err, Contains}
 use Rattle.std.specs.Prelude.{◌==◌, IsErrAnd, if◌then◌else◌, bytes_eq, find, length, nat_lt, option_map, unwrap_or}
 use Rattle.std.specs.List.{AllByRecursion}
 use Rattle.std.specs.Map.{lookup}
 use Rattle.std.proofs.lemmas.Bool.{cases_eq, ltb-true, ltb-false}
 use Rattle.std.proofs.lemmas.List.{length-map}
 use Rattle.std.proofs.lemmas.List.Elements.{Contains-get_or, Contains-append_right}
-use Rattle.bz_lines.specs.FirstFault.{NoneFails, NoLineFails, IsFirstFault, failing_or, first_failing, first_fault}
-use Rattle.bz_lines.specs.LinesBefore.{Follows}
+use Rattle.bz_lines.specs.FirstFault.{NoLineFails, failing_or, first_failing, first_fault}
 use Rattle.bz_lines.specs.NameLists.{is_among}
 use Rattle.bz_lines.specs.NumberedLines.{NumberedLine, numbered_lines}
-use Rattle.bz_lines.proofs.FirstFaults.{first_fault-here, first_fault-next, first_fault-none, first_fault-some, no_line_fails, none_fails, some_line_fails}
+use Rattle.bz_lines.proofs.FirstFaults.{first_fault-here, first_fault-next, no_line_fails, some_line_fails}
 use Rattle.bz_model.specs.declared.records.Column.{Column}
 use Rattle.bz_model.specs.declared.records.Model.{Model}
 use Rattle.bz_model.specs.Parting.{blocks_of}
 use Rattle.bz_model.specs.Strict.{IsPartition}
 use Rattle.bz_part.specs.declared.faults.PartKind.{PartKind}
-use Rattle.bz_part.specs.declared.faults.PartKind.TheVariants.{Fields, Gap, Head, NotText, Unknown}
+use Rattle.bz_part.specs.declared.faults.PartKind.TheVariants.{Fields, Gap, NotText, Unknown}
 use Rattle.bz_part.specs.declared.faults.PartStop.{PartStop}
 use Rattle.bz_part.specs.declared.faults.PartStop.TheVariants.{Fault, OutOfMemory}
-use Rattle.bz_part.specs.Partition.{Assigns, HasNoGap, IsFaultOfGap, IsFaultOfLine, IsGap, IsWithoutHead, PartFault, PartOf, ReadsPartition, names_of, part_by}
+use Rattle.bz_part.specs.Partition.{Assigns, IsGap, PartOf, ReadsPartition, names_of, part_by}
 use Rattle.bz_part.specs.PartitionLines.{column_tests, head_tests, name_on, number_on, part_tests}
-use Rattle.bz_part.specs.PartitionSteps.{ReadsColumns, ReadsHead, fault_by_number, later_fault, later_tests, said}
+use Rattle.bz_part.specs.PartitionSteps.{ReadsColumns, ReadsHead, fault_by_number, later_tests, said}
 
 -- ---- the fault of all lines, by that of the first and that of the later ones
 -- names that are the same ones

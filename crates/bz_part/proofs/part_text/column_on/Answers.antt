@@ -1,4 +1,4 @@
-use Rattle.std.proofs.Common.{◌≡◌, ◌∷◌, [], Bor, List, ℕ, Bool, true, false, ◌∙◌, ap, sym, map}
+use Rattle.std.proofs.Common.{Bor, List, ℕ, true, false, ◌∙◌, ap, sym, map}
 use Rattle.std.specs.Prelude.{is_some}
 use Rattle.std.specs.Str.Parse.{digits_value}
 use Rattle.bz_lines.specs.FieldLists.{field}

@@ -1,4 +1,3 @@
-use Rattle.std.proofs.Common.{rules}
 use Rattle.bz_part.proofs.PartitionLemmas.{gap_more}
 use Rattle.bz_part.proofs.part_text.first_gap.Goals as goal
 

@@ -2,7 +2,7 @@ use Rattle.std.proofs.Common.{◌∙◌, Global, Vec, ap, subst, sym, map, List,
 use Rattle.bz_lines.specs.LineReader.{to_come}
 use Rattle.bz_lines.specs.NameLists.{is_among}
 use Rattle.bz_model.specs.declared.records.Column.{Column}
-use Rattle.bz_part.specs.Partition.{Assigns, IsGap, HasNoGap, PartOf, names_of}
+use Rattle.bz_part.specs.Partition.{Assigns, IsGap, HasNoGap, names_of}
 use Rattle.bz_part.proofs.PartitionTheorem.{SameNames, assigned, columns_stop, gap_stops, head_stops, is_partition}
 use Rattle.bz_part.proofs.part_text.read_partition.Goals as goal
 
