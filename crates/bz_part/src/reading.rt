@@ -14,7 +14,7 @@ use bz_num::Items;
 use std::alloc::{AllocError, Global};
 
 /// The names of the columns.
-fn column_names(alloc: Global, columns: &[Column]) -> Result<Names<'_>, AllocError>
+pub(crate) fn column_names(alloc: Global, columns: &[Column]) -> Result<Names<'_>, AllocError>
     ensures { IfOk result (λ names. (name : List ℕ) → is_among names name ≡ is_among (map (λ c. c.name) columns.now) name) }
 {
     let mut names = Names::new(alloc);

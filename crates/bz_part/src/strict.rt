@@ -165,7 +165,7 @@ fn is_small(model: &Model, part: &[u32], b: u32) -> bool
 }
 
 /// The number of blocks: the greatest number of the partition.
-fn greatest(part: &[u32]) -> u32
+pub(crate) fn greatest(part: &[u32]) -> u32
     ensures { result ≡ blocks_of part.now }
 {
     let mut most = 0;

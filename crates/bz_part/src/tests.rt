@@ -6,6 +6,8 @@ ghost use Rattle.bz_algebra.specs.Numbers.{IsNarrow};
 ghost use Rattle.bz_algebra.specs.Sums.{AllBelow};
 ghost use Rattle.bz_model.specs.Strict.{HasItsColumns};
 
+use crate::faults::{PartFault, PartKind, PartStop};
+use crate::part_text::read_partition;
 use crate::reading::read_part;
 use bz_lines::FormStop;
 use bz_model::{Column, Model, Row};
@@ -104,6 +106,76 @@ fn refuses_other_partitions(rt: HostRuntime) {
             match read_part(rt.alloc(), text, &model) {
                 Ok(_) => assert!(rt; false),
                 Err(stop) => assert_eq!(rt; stop, FormStop::Outside),
+            }
+        }
+    }
+}
+
+fn read(alloc: Global, text: &[u8], model: &Model) -> Result<Vec<u32>, PartStop> {
+    if text.len() > 100 {
+        return Err(PartStop::OutOfMemory);
+    }
+    read_partition(alloc, text, model)
+}
+
+#[test]
+fn reads_partitions(rt: HostRuntime) {
+    if let Ok(model) = worked(rt.alloc()) {
+        for (text, x, y) in [
+            (b"cpxBendersPartition 1\nx 0\n".as_slice(), 0, 1),
+            (b"* a comment\n\t cpxBendersPartition 0 \r\n\n y 1", 0, 1),
+            (b"cpxBendersPartition 1\n", 1, 1),
+            (b"cpxBendersPartition 0", 0, 0),
+            (b"cpxBendersPartition 2\nx\t1", 1, 2),
+            (b"cpxBendersPartition 1\ny 2\nx 1\n", 1, 2),
+        ] {
+            let part = read(rt.alloc(), text, &model);
+            assert!(rt; part.is_ok());
+            if let Ok(part) = part {
+                assert_eq!(rt; part.as_slice(), [x, y].as_slice());
+            }
+        }
+    }
+}
+
+#[test]
+fn refuses_faults(rt: HostRuntime) {
+    if let Ok(model) = worked(rt.alloc()) {
+        for (text, line, kind) in [
+            (b"".as_slice(), 0, PartKind::Head),
+            (b"cpxBendersPartition 1\nw 0\n", 2, PartKind::Unknown),
+            (
+                b"cpxBendersPartition 2\nx 0\n",
+                0,
+                PartKind::Gap { block: 1 },
+            ),
+            (b"cpxBendersPartition 257\n", 1, PartKind::Limit),
+            (b"cpxBendersPartition 1\nx 01\n", 2, PartKind::Value),
+            (b"\n*\n cpxBendersPartition\n", 3, PartKind::Head),
+            (b"cpxBendersPartition 01\n", 1, PartKind::Head),
+            (b"cpxbendersPartition 1\n", 1, PartKind::Head),
+            (b"cpxBendersPartition 1\nx 0 0\n", 2, PartKind::Fields),
+            (b"cpxBendersPartition 1\nx 0\n\nx 1\n", 4, PartKind::Double),
+            (b"cpxBendersPartition 1\nx +1\n", 2, PartKind::Value),
+            (
+                b"cpxBendersPartition 1\nx 99999999999999999999\n",
+                2,
+                PartKind::Limit,
+            ),
+            (b"cpxBendersPartition 1\r", 1, PartKind::NotText),
+            (b"cpxBendersPartition 300\nx \x01", 1, PartKind::Limit),
+            (b"cpxBendersPartition 1\nw 0 0\x01", 2, PartKind::NotText),
+            (
+                b"cpxBendersPartition 3\nx 3\ny 2",
+                0,
+                PartKind::Gap { block: 1 },
+            ),
+        ] {
+            match read(rt.alloc(), text, &model) {
+                Ok(_) => assert!(rt; false, "at {line}"),
+                Err(stop) => {
+                    assert_eq!(rt; stop, PartStop::Fault(PartFault { line, kind }));
+                }
             }
         }
     }
