@@ -1,5 +1,6 @@
 pub mod BeforeLemmas
 pub mod FieldLemmas
+pub mod FirstFaults
 pub mod ListLemmas
 pub mod NameLemmas
 pub mod Refusals

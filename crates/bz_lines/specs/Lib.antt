@@ -1,4 +1,5 @@
 pub mod FieldLists
+pub mod FirstFault
 pub mod Lines
 pub mod LinesBefore
 pub mod NameLists

@@ -1,0 +1,6 @@
+pub mod FactTexts
+pub mod Headings
+pub mod LineFacts
+pub mod LineTests
+pub mod Spellings
+pub mod Words
