@@ -1,17 +1,14 @@
 -- The facts of some lines and of one more.
-use Rattle.std.proofs.Common.{ℕ, ◌≡◌, refl, sym, ap, ◌∙◌, subst, Bool, true, false, ◌||◌, List, [], ◌∷◌, ◌++◌, Option, Some, None, cond, fold, append_assoc, append-nil}
+use Rattle.std.proofs.Common.{ℕ, ◌≡◌, refl, ap, ◌∙◌, Bool, true, false, ◌||◌, List, [], ◌∷◌, ◌++◌, Option, Some, None, cond, fold, append-nil}
 use Rattle.std.specs.List.{cons_option, last_or, list_any}
 use Rattle.std.proofs.lemmas.Grind.{fold-append}
 use Rattle.std.proofs.lemmas.List.Elements.{filter_map-append}
-use Rattle.bz_lines.specs.LinesBefore.{gathered}
 use Rattle.bz_lines.specs.NameLists.{with_name}
 use Rattle.bz_lines.specs.NumberedLines.{NumberedLine}
 use Rattle.bz_lines.proofs.BeforeLemmas.{gathered_more}
 use Rattle.bz_facts.specs.declared.records.Heading.{Heading}
-use Rattle.bz_facts.specs.declared.records.Heading.TheVariants.{Columns}
 use Rattle.bz_facts.specs.Headings.{Lines, gathered_in, heading_on, headings, is_end, on_line_in, section, up_to_end}
 use Rattle.bz_facts.specs.LineFacts.{columns, columns_named, sense_on, sense_words}
-use Rattle.bz_facts.specs.Words.{is_marker}
 
 -- the last of some items and one more
 last_or_more : {A : Type 0} (o : Option A) (xs : List A) (x : A) → last_or o (xs ++ x ∷ []) ≡ Some x

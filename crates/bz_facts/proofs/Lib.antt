@@ -1,3 +1,4 @@
+pub mod FactLaws
 pub mod FactLemmas
 pub mod SpellingLaws
-pub mod Worked
+mod Worked

@@ -5,10 +5,10 @@ use Rattle.std.specs.Option.{option_map_or}
 use Rattle.bz_num.specs.declared.decimal.Dec.{Dec}
 use Rattle.bz_num.specs.declared.decimal.NumFault.{NumFault}
 use Rattle.bz_num.specs.declared.decimal.NumFault.TheVariants.{Form, TooWide}
-use Rattle.bz_num.specs.Decimals.{IsDecimal, IsDecimalText, IsWithinLimits}
+use Rattle.bz_num.specs.Decimals.{IsDecimalText, IsWithinLimits}
 use Rattle.bz_num.specs.DecimalSteps.{end_of, kind_of, read_on, start}
 use Rattle.bz_num.proofs.DecimalEnds.{EndTells, end-tells}
-use Rattle.bz_num.proofs.DecimalFronts.{Front, at_start, run, run-append, run-none, run-spells}
+use Rattle.bz_num.proofs.DecimalFronts.{Front, at_start, run, run-append, run-spells}
 use Rattle.bz_num.proofs.DecimalReadings.{ReadTells, read-more, read-start}
 use Rattle.bz_num.proofs.DecimalValues.{same_decimal}
 use Rattle.bz_facts.specs.Spellings.{IsSpelled, Spelled, as_spelled, no_number, number, spelled, too_wide}

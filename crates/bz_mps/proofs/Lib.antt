@@ -15,3 +15,4 @@ pub mod RowReading
 pub mod SectionReading
 pub mod SideReading
 pub mod TermReading
+mod WorkedEnds
