@@ -85,10 +85,10 @@ facts_of_one = record {
   columns = codes "x" ∷ codes "y" ∷ [];
   integers = true ∷ false ∷ [];
   entries = record { column = 0; row = 0; number = whole 2 }
-    ∷ record { column = 0; row = 1; number = whole 2 }
-    ∷ record { column = 1; row = 0; number = whole 3 }
-    ∷ record { column = 1; row = 1; number = whole 1 }
-    ∷ [];
+      ∷ record { column = 0; row = 1; number = whole 2 }
+      ∷ record { column = 1; row = 0; number = whole 3 }
+      ∷ record { column = 1; row = 1; number = whole 1 }
+      ∷ [];
   right_sides = record { row = 1; number = whole 1 } ∷ [];
   ranges = [];
   bounds = record { line = 13; kind = Up; column = 0; number = Some (whole 1) } ∷ [];

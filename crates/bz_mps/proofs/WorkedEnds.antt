@@ -1,13 +1,10 @@
 -- Worked facts, and the end tests and rows that they have, by computation.
-use Rattle.std.proofs.Common.{ℕ, ℤ, ◌≡◌, inr, refl, true, false, List, [], ◌∷◌, ◌++◌, Option, Some, None, codes, pos, negsuc}
-use Rattle.bz_lines.specs.FirstFault.{NoneFails}
+use Rattle.std.proofs.Common.{ℕ, ℤ, ◌≡◌, inr, refl, List, [], ◌∷◌, Some, codes, pos, negsuc}
 use Rattle.bz_lines.specs.NumberedLines.{numbered_after}
-use Rattle.bz_lines.proofs.FirstFaults.{no_line_fails, none_fails, some_fails}
+use Rattle.bz_lines.proofs.FirstFaults.{no_line_fails, some_fails}
 use Rattle.bz_num.specs.declared.Dec.{Dec}
-use Rattle.bz_facts.specs.declared.BoundType.TheVariants.{Fx, Up}
-use Rattle.bz_facts.specs.declared.Facts.{Facts}
-use Rattle.bz_facts.specs.declared.MpsKind.TheVariants.{Crossed, NegativeUpper, TooWide}
-use Rattle.bz_facts.specs.declared.RowType.TheVariants.{AtLeast, AtMost, Equal, Free}
+use Rattle.bz_facts.specs.declared.MpsKind.TheVariants.{NegativeUpper}
+use Rattle.bz_facts.specs.declared.RowType.TheVariants.{AtLeast, Equal}
 use Rattle.bz_facts.specs.FactTexts.{lines_read}
 use Rattle.bz_facts.specs.LineTests.{line_tests}
 use Rattle.bz_facts.specs.Spellings.{spelled}
