@@ -16,3 +16,4 @@ pub mod SectionReading
 pub mod SideReading
 pub mod TermReading
 mod WorkedEnds
+pub mod TextLaws
