@@ -1,7 +1,6 @@
 -- The first fault as a relation and as a function are the same.
-use Rattle.std.proofs.Common.{refl, sym, ap, ◌∙◌, subst, Bool, true, false, ◌≡◌, List, [], ◌∷◌, ◌++◌, Option, Some, None, if◌then◌else◌}
+use Rattle.std.proofs.Common.{refl, sym, ap, ◌∙◌, subst, Bool, true, false, ◌≡◌, List, [], ◌∷◌, ◌++◌, Option, Some, None}
 use Rattle.std.proofs.lemmas.List.{append-nil, append_assoc}
-use Rattle.bz_lines.specs.LinesBefore.{Follows}
 use Rattle.bz_lines.specs.FirstFault.{NoneFails, IsFirstFailing, NoLineFails, IsFirstFaultAfter, first_failing, failing_or, first_fault}
 
 -- Tests of one line.
