@@ -1,9 +1,11 @@
 pub mod ColumnLines
 pub mod FactReading
 pub mod Fitness
+mod FractionLaws
 pub mod Fronts
 pub mod HeadLines
 pub mod ModelColumns
+pub mod ModelLaws
 pub mod ModelMade
 pub mod ModelRows
 pub mod ModelSame
@@ -15,3 +17,5 @@ pub mod RowReading
 pub mod SectionReading
 pub mod SideReading
 pub mod TermReading
+pub mod TextLaws
+mod WorkedEnds

@@ -1,6 +1,9 @@
+pub mod ColumnEnds
 pub mod ColumnReading
+pub mod FactModel
 pub mod LineReading
 pub mod ModelReading
 pub mod ModelText
 pub mod ReadSections
+pub mod ScaledRows
 pub mod Sections

@@ -1,0 +1,4 @@
+pub mod FactLaws
+pub mod FactLemmas
+pub mod SpellingLaws
+mod Worked
