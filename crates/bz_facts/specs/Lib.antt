@@ -1,7 +1,11 @@
 pub mod FactTexts
 pub mod Headings
+pub mod LineAnswers
 pub mod LineFacts
+pub mod LineSteps
 pub mod LineTests
+pub mod RowCounts
 pub mod SoundFacts
 pub mod Spellings
+pub mod TableNotes
 pub mod Words

@@ -1,8 +1,19 @@
 //! The facts that the lines of a model's text state, and the faults of lines.
 #![tactic(auto)]
 
+mod bound_lines;
+mod column_lines;
 mod faults;
+mod given_lines;
+mod headers;
+mod pairs;
 mod records;
+mod refusals;
+mod row_lines;
+mod sense_lines;
+mod spelled;
+mod tables;
+mod words;
 
 pub use faults::{MpsFault, MpsKind, MpsStop};
 pub use records::{BoundLine, BoundType, Entry, Facts, Given, Heading, RowType};
