@@ -4,7 +4,8 @@ use Rattle.std.specs.Bool.{MatchBool}
 use Rattle.std.specs.List.{list_any}
 use Rattle.bz_lines.specs.FieldLists.{Fields as FieldList, field}
 use Rattle.bz_lines.specs.NameLists.{is_among, with_name}
-use Rattle.bz_facts.specs.declared.faults.MpsKind.TheVariants.{DoubleEntry, Fields, Limit, MarkerOpen, NoObjective, Order, Section, SectionOut, Sense, SplitColumn}
+use Rattle.bz_lines.specs.NumberedLines.{NumberedLine}
+use Rattle.bz_facts.specs.declared.faults.MpsKind.TheVariants.{DoubleEntry, Fields, Limit, MarkerOpen, NotText, NoObjective, Order, Section, SectionOut, Sense, SplitColumn}
 use Rattle.bz_facts.specs.declared.records.Entry.{Entry}
 use Rattle.bz_facts.specs.declared.records.Given.{Given}
 use Rattle.bz_facts.specs.declared.records.Heading.{Heading}
@@ -18,11 +19,12 @@ use Rattle.bz_facts.specs.declared.tables.GivenTable.{GivenTable}
 use Rattle.bz_facts.specs.declared.tables.Headers.{Headers}
 use Rattle.bz_facts.specs.declared.tables.Rows.{Rows as RowTable}
 use Rattle.bz_facts.specs.declared.tables.Sense.{Sense as SenseTable}
+use Rattle.bz_facts.specs.declared.tables.Tables.{Tables}
 use Rattle.bz_facts.specs.Headings.{is_it}
 use Rattle.bz_facts.specs.LineFacts.{behind_set, begins_column, bound_on, bound_set, entries_on, given_on, is_own, pairs, set_of}
-use Rattle.bz_facts.specs.LineTests.{Tests, bound_tests_of, has_wrong_sense, is_free, is_past_limit, is_same_entry, is_too_long, marker_tests, own_given_tests, pair_tests, repeats, row_tests, sense_tests}
+use Rattle.bz_facts.specs.LineTests.{Tests as TestList, bound_tests_of, has_wrong_sense, is_free, is_past_limit, is_same_entry, is_too_long, marker_tests, own_given_tests, pair_tests, repeats, row_tests, sense_tests}
 use Rattle.bz_facts.specs.TableNotes.{first_noted, is_noted}
-use Rattle.bz_facts.specs.Words.{bound_type, heading, is_greater_word, is_left_out, is_marker, row_type}
+use Rattle.bz_facts.specs.Words.{bound_type, heading, is_greater_word, is_left_out, is_marker, opening, row_type}
 
 -- Headers.
 
@@ -57,7 +59,7 @@ abbrev pub is_waiting : Option Heading → SenseTable → Bool
 is_waiting section s = is_it ObjSense section && not s.told
 
 -- the tests of a header, where the marker is open or not, and these are what the rows say
-abbrev pub header_tests_by : Headers → SenseTable → Bool → List RowType → FieldList → Tests
+abbrev pub header_tests_by : Headers → SenseTable → Bool → List RowType → FieldList → TestList
 header_tests_by hs s open_now types fs =
     let h = heading (field 0 fs) in
     (is_left_out (field 0 fs), SectionOut)
@@ -86,7 +88,7 @@ with_word s word = record { maximise = s.maximise || is_greater_word word; told 
 abbrev pub with_header : SenseTable → FieldList → SenseTable
 with_header s fs = if is_it ObjSense (heading (field 0 fs)) && nat_lt 1 (length fs) then with_word s (field 1 fs) else s
 
-abbrev pub sense_tests_by : SenseTable → FieldList → Tests
+abbrev pub sense_tests_by : SenseTable → FieldList → TestList
 sense_tests_by s fs = (s.told, Section) ∷ sense_tests fs
 
 -- ROWS.
@@ -98,7 +100,7 @@ pub record RowAdded (fs : FieldList) (old new : RowTable) : Type 0 where
 -- COLUMNS.
 
 -- the tests of entries behind those of the tables, where the rows have these names
-abbrev pub entry_tests_by : List (List ℕ) → ColumnTable → FieldList → Tests
+abbrev pub entry_tests_by : List (List ℕ) → ColumnTable → FieldList → TestList
 entry_tests_by rows t fs =
     let more = entries_on rows t.names fs in
     (not ((length fs == 3) || (length fs == 5)), Fields)
@@ -108,15 +110,15 @@ entry_tests_by rows t fs =
     ∷ (is_past_limit t.names t.entries fs more, Limit)
     ∷ []
 
-abbrev pub column_tests_by : List (List ℕ) → ColumnTable → FieldList → Tests
+abbrev pub column_tests_by : List (List ℕ) → ColumnTable → FieldList → TestList
 column_tests_by rows t fs = if is_marker fs then marker_tests t.open (field 2 fs) else entry_tests_by rows t fs
 
 -- a marker line
-pub record MarkerAdded (old new : ColumnTable) : Type 0 where
+pub record MarkerAdded (fs : FieldList) (old new : ColumnTable) : Type 0 where
   pub names : new.names ≡ old.names
   pub integers : new.integers.items ≡ old.integers.items
   pub entries : new.entries ≡ old.entries
-  pub opened : new.open ≡ not old.open
+  pub opened : new.open ≡ bytes_eq (field 2 fs) opening
   pub current : new.current ≡ None
 
 -- a line of entries
@@ -128,7 +130,7 @@ pub record EntriesAdded (rows : List (List ℕ)) (fs : FieldList) (old new : Col
   pub current : new.current ≡ Some (field 0 fs)
 
 abbrev pub ColumnLineAdded : List (List ℕ) → FieldList → ColumnTable → ColumnTable → Type 0
-ColumnLineAdded rows fs old new = MatchBool (is_marker fs) (MarkerAdded old new) (EntriesAdded rows fs old new)
+ColumnLineAdded rows fs old new = MatchBool (is_marker fs) (MarkerAdded fs old new) (EntriesAdded rows fs old new)
 
 -- RHS and RANGES.
 
@@ -136,7 +138,7 @@ ColumnLineAdded rows fs old new = MatchBool (is_marker fs) (MarkerAdded old new)
 abbrev pub as_sets : Option (List ℕ) → List (List ℕ)
 as_sets set = option_to_list set
 
-abbrev pub given_tests_by : List (List ℕ) → GivenTable → FieldList → Tests
+abbrev pub given_tests_by : List (List ℕ) → GivenTable → FieldList → TestList
 given_tests_by rows t fs =
     (not (nat_le 2 (length fs) && nat_le (length fs) 5), Fields)
     ∷ (if is_own (as_sets t.set) (set_of fs) then own_given_tests rows t.givens (given_on rows (as_sets t.set) fs) (behind_set fs) else [])
@@ -147,7 +149,7 @@ pub record GivenAdded (rows : List (List ℕ)) (fs : FieldList) (old new : Given
 
 -- BOUNDS.
 
-abbrev pub bound_tests_by : List (List ℕ) → BoundTable → FieldList → Tests
+abbrev pub bound_tests_by : List (List ℕ) → BoundTable → FieldList → TestList
 bound_tests_by columns t fs = bound_tests_of columns (as_sets t.set) (bound_type (field 0 fs)) fs
 
 pub record BoundAdded (columns : List (List ℕ)) (line : ℕ) (fs : FieldList) (old new : BoundTable) : Type 0 where
@@ -163,3 +165,49 @@ pairs_read p = p.first ∷ option_to_list p.second
 -- an entry of the column, by the row and the number
 abbrev pub entry_in : ℕ → Given → Entry
 entry_in column g = record { column = column; row = g.row; number = g.number }
+
+-- All lines.
+
+-- the tests of a data line in a section
+abbrev pub data_tests_by : Option Heading → Tables → FieldList → TestList
+data_tests_by (Some ObjSense) t fs = sense_tests_by t.sense fs
+data_tests_by (Some Rows) t fs = row_tests t.rows.names t.rows.types fs
+data_tests_by (Some Columns) t fs = column_tests_by t.rows.names t.columns fs
+data_tests_by (Some Rhs) t fs = given_tests_by t.rows.names t.right_sides fs
+data_tests_by (Some Ranges) t fs = given_tests_by t.rows.names t.ranges fs
+data_tests_by (Some Bounds) t fs = bound_tests_by t.columns.names t.bounds fs
+data_tests_by _ t fs = (true, Section) ∷ []
+
+-- the tests of a line
+abbrev pub line_tests_by : Tables → NumberedLine → TestList
+line_tests_by t l =
+    (not l.text, NotText)
+    ∷ (if l.header then header_tests_by t.headers t.sense t.columns.open t.rows.types l.fields else data_tests_by t.headers.section t l.fields)
+
+-- a header
+pub record HeaderLineAdded (fs : FieldList) (old new : Tables) : Type 0 where
+  pub header : HeaderAdded fs old.headers new.headers
+  pub others : new ≡ record old {
+    headers = new.headers;
+    sense = with_header old.sense fs;
+    columns = record old.columns { current = None };
+  }
+
+-- a data line in a section, with its number
+abbrev pub DataLineAdded : Option Heading → ℕ → FieldList → Tables → Tables → Type 0
+DataLineAdded (Some ObjSense) line fs old new = new ≡ record old { sense = with_word old.sense (field 0 fs) }
+DataLineAdded (Some Rows) line fs old new = RowAdded fs old.rows new.rows × (new ≡ record old { rows = new.rows })
+DataLineAdded (Some Columns) line fs old new =
+    ColumnLineAdded old.rows.names fs old.columns new.columns × (new ≡ record old { columns = new.columns })
+DataLineAdded (Some Rhs) line fs old new =
+    GivenAdded old.rows.names fs old.right_sides new.right_sides × (new ≡ record old { right_sides = new.right_sides })
+DataLineAdded (Some Ranges) line fs old new =
+    GivenAdded old.rows.names fs old.ranges new.ranges × (new ≡ record old { ranges = new.ranges })
+DataLineAdded (Some Bounds) line fs old new =
+    BoundAdded old.columns.names line fs old.bounds new.bounds × (new ≡ record old { bounds = new.bounds })
+DataLineAdded _ line fs old new = ⊥
+
+-- a line
+abbrev pub LineAdded : NumberedLine → Tables → Tables → Type 0
+LineAdded l old new =
+    MatchBool l.header (HeaderLineAdded l.fields old new) (DataLineAdded old.headers.section l.number l.fields old new)

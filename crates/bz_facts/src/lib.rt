@@ -7,6 +7,7 @@ mod faults;
 mod given_lines;
 mod headers;
 mod pairs;
+mod reading;
 mod records;
 mod refusals;
 mod row_lines;
@@ -16,4 +17,5 @@ mod tables;
 mod words;
 
 pub use faults::{MpsFault, MpsKind, MpsStop};
+pub use reading::read_facts;
 pub use records::{BoundLine, BoundType, Entry, Facts, Given, Heading, RowType};
