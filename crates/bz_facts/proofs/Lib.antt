@@ -1,5 +1,8 @@
+mod Worked
+pub mod BetweenLines
 pub mod FactLaws
 pub mod FactLemmas
+pub mod FewLines
 pub mod Held
 pub mod LineAdding
 pub mod LineHolding
@@ -7,5 +10,3 @@ pub mod NumberLemmas
 pub mod SameTests
 pub mod SpellingLaws
 pub mod TableLemmas
-mod Worked
-pub mod BetweenLines

@@ -44,10 +44,10 @@ acts-header h seen l e = ap (λ b. not b && is_in h seen) e
 pub acts-data : (h : Heading) (seen : Lines) (l : NumberedLine) (o : Option Heading) → l.header ≡ false → section seen ≡ o → acts h seen l ≡ is_it h o
 acts-data h seen l o e s = ap (λ b. not b && is_in h seen) e ∙ ap (is_it h) s
 
-heading-header : (l : NumberedLine) → l.header ≡ true → heading_on l ≡ heading (word l)
+pub heading-header : (l : NumberedLine) → l.header ≡ true → heading_on l ≡ heading (word l)
 heading-header l e = ap (λ b. cond b (heading (word l)) None) e
 
-heading-data : (l : NumberedLine) → l.header ≡ false → heading_on l ≡ None
+pub heading-data : (l : NumberedLine) → l.header ≡ false → heading_on l ≡ None
 heading-data l e = ap (λ b. cond b (heading (word l)) None) e
 
 -- what another line leaves, and what a line of the section adds
@@ -60,7 +60,7 @@ stays h f seen l e =
 grows : {F : Type 0} (h : Heading) (f : Lines → NumberedLine → List F) (seen : Lines) (l : NumberedLine) → acts h seen l ≡ true → gathered_in h f (seen ++ l ∷ []) ≡ gathered_in h f seen ++ f seen l
 grows h f seen l e = gathered_in_more h f seen l ∙ ap (λ b. gathered_in h f seen ++ cond b (f seen l) []) e
 
-last-more : {A : Type 0} (o : Option A) (xs : List A) (x : A) → last_or o (xs ++ x ∷ []) ≡ Some x
+pub last-more : {A : Type 0} (o : Option A) (xs : List A) (x : A) → last_or o (xs ++ x ∷ []) ≡ Some x
 last-more o [] x = refl
 last-more o (y ∷ ys) x = last-more (Some y) ys x
 

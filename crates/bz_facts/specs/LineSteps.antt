@@ -1,11 +1,14 @@
 -- The tests of a line and what it adds, by the tables of the lines before it alone.
-use Rattle.std.specs.Prelude.{ℕ, Bool, true, false, ◌≡◌, ◌==◌, ◌&&◌, ◌||◌, not, nat_le, nat_lt, is_none, bytes_eq, length, drop, flat_map, List, [], ◌∷◌, ◌++◌, Option, Some, None, option_to_list, if◌then◌else◌}
+use Rattle.std.specs.Prelude.{ℕ, Bool, true, false, ◌≡◌, ◌==◌, ◌&&◌, ◌||◌, not, nat_le, nat_lt, is_none, bytes_eq, length, drop, flat_map, List, [], ◌∷◌, ◌++◌, Option, Some, None, option_to_list, Result, Ok, Err, if◌then◌else◌}
 use Rattle.std.specs.Bool.{MatchBool}
 use Rattle.std.specs.List.{list_any}
 use Rattle.bz_lines.specs.FieldLists.{Fields as FieldList, field}
+use Rattle.bz_lines.specs.FirstFault.{first_failing}
 use Rattle.bz_lines.specs.NameLists.{is_among, with_name}
 use Rattle.bz_lines.specs.NumberedLines.{NumberedLine}
 use Rattle.bz_facts.specs.declared.faults.MpsKind.TheVariants.{DoubleEntry, Fields, Limit, MarkerOpen, NotText, NoObjective, Order, Section, SectionOut, Sense, SplitColumn}
+use Rattle.bz_facts.specs.declared.faults.MpsStop.{MpsStop}
+use Rattle.bz_facts.specs.declared.faults.MpsStop.TheVariants.{Fault, OutOfMemory}
 use Rattle.bz_facts.specs.declared.records.Entry.{Entry}
 use Rattle.bz_facts.specs.declared.records.Given.{Given}
 use Rattle.bz_facts.specs.declared.records.Heading.{Heading}
@@ -20,7 +23,7 @@ use Rattle.bz_facts.specs.declared.tables.Headers.{Headers}
 use Rattle.bz_facts.specs.declared.tables.Rows.{Rows as RowTable}
 use Rattle.bz_facts.specs.declared.tables.Sense.{Sense as SenseTable}
 use Rattle.bz_facts.specs.declared.tables.Tables.{Tables}
-use Rattle.bz_facts.specs.Headings.{is_it}
+use Rattle.bz_facts.specs.Headings.{is_end, is_it}
 use Rattle.bz_facts.specs.LineFacts.{behind_set, begins_column, bound_on, bound_set, entries_on, given_on, is_own, pairs, set_of}
 use Rattle.bz_facts.specs.LineTests.{Tests as TestList, bound_tests_of, has_wrong_sense, is_free, is_past_limit, is_same_entry, is_too_long, marker_tests, own_given_tests, pair_tests, repeats, row_tests, sense_tests}
 use Rattle.bz_facts.specs.TableNotes.{first_noted, is_noted}
@@ -211,3 +214,9 @@ DataLineAdded _ line fs old new = ⊥
 abbrev pub LineAdded : NumberedLine → Tables → Tables → Type 0
 LineAdded l old new =
     MatchBool l.header (HeaderLineAdded l.fields old new) (DataLineAdded old.headers.section l.number l.fields old new)
+
+-- What the reader of a line answers: whether it is that of ENDATA, where no test fails and the line is added, or its fault.
+abbrev pub LinePassed : NumberedLine → Tables → Result Bool MpsStop → Tables → Type 0
+LinePassed l old (Ok last) new = (first_failing (line_tests_by old l) ≡ None) × LineAdded l old new × (last ≡ is_end l)
+LinePassed l old (Err (Fault f)) new = (first_failing (line_tests_by old l) ≡ Some f.kind) × (f.line ≡ l.number)
+LinePassed l old (Err OutOfMemory) new = Unit {0}

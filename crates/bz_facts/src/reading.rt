@@ -1,9 +1,10 @@
 //! The reader of the facts of a model's text.
 ghost use Rattle.std.specs.Prelude.{◌≡◌, ◌<◌, ◌-◌, ◌^◌, [], None, false, length, map, MatchResult};
 ghost use Rattle.bz_lines.specs.LineReading.{read_line};
+ghost use Rattle.bz_facts.specs.declared.records.Facts.{Facts};
 ghost use Rattle.bz_facts.specs.FactTexts.{IsFactsOf, IsLineFault, StopsBy};
 ghost use Rattle.bz_facts.specs.LineAnswers.{PassesLine};
-ghost use Rattle.bz_facts.specs.LineSteps.{DataLineAdded, HeaderLineAdded, LineAdded, data_tests_by, header_tests_by, line_tests_by};
+ghost use Rattle.bz_facts.specs.LineSteps.{DataLineAdded, HeaderLineAdded, LineAdded, LinePassed, data_tests_by, header_tests_by, line_tests_by};
 ghost use Rattle.bz_facts.specs.TableFacts.{AreTableFacts, AreEmpty, stop_at as stop_on};
 
 use crate::bound_lines::on_bound_line;
@@ -185,24 +186,48 @@ fn facts_of(tables: Tables<'_>, end: u32) -> Facts<'_>
     }
 }
 
-/// The facts that the lines of a model's text state. `Fault` is exactly that of a text one of whose lines fails, or that
-/// ends before ENDATA: the first such line and its first fault, or the number of all lines. Each line is passed once.
-pub fn read_facts<'a>(alloc: Global, text: &'a [u8]) -> Result<Facts<'a>, MpsStop>
-    requires { length text.now < 2 ^ 32 - 1 }
-    ensures { MatchResult result (IsFactsOf text.now) (StopsBy (IsLineFault text.now)) }
+/// Reads a line, and says whether it is that of ENDATA.
+fn pass_line<'a>(tables: &mut Tables<'a>, line: &Line<'a>) -> Result<bool, MpsStop>
+    requires rows { length tables.old.rows.names < 2 ^ 32 }
+    requires columns { length tables.old.columns.names < 2 ^ 32 }
+    ensures { LinePassed (read_line line.now) tables.old result tables.new }
+{
+    match on_line(tables, line) {
+        Ok(()) => Ok(line.header && is_end(tables.headers.section)),
+        Err(refusal) => Err(stop_at(line.number, refusal)),
+    }
+}
+
+/// Reads a text's lines into the tables, and gives the line of ENDATA.
+fn read_lines<'a>(
+    alloc: Global,
+    text: &'a [u8],
+    tables: &mut Tables<'a>,
+) -> Result<u32, MpsStop>
+    requires few { length text.now < 2 ^ 32 - 1 }
+    requires empty { AreEmpty tables.old }
+    ensures { MatchResult result (λ end. (f : Facts) → AreTableFacts tables.new end f → IsFactsOf text.now f) (StopsBy (IsLineFault text.now)) }
 {
     let mut lines = Lines::new(text);
-    let mut tables = no_tables(alloc);
     'lines: while let Some(line) = lines.next(alloc)? {
-        if let Err(refusal) = on_line(&mut tables, &line) {
-            return Err(stop_at(line.number, refusal));
-        }
-        if line.header && is_end(tables.headers.section) {
-            return Ok(facts_of(tables, line.number));
+        let last = pass_line(tables, &line)?;
+        if last {
+            return Ok(line.number);
         }
     }
     Err(MpsStop::Fault(MpsFault {
         line: lines.number(),
         kind: MpsKind::NoEnd,
     }))
+}
+
+/// The facts that the lines of a model's text state. `Fault` is exactly that of a text one of whose lines fails, or that
+/// ends before ENDATA: the first such line and its first fault, or the number of all lines. Each line is passed once.
+pub fn read_facts<'a>(alloc: Global, text: &'a [u8]) -> Result<Facts<'a>, MpsStop>
+    requires { length text.now < 2 ^ 32 - 1 }
+    ensures { MatchResult result (IsFactsOf text.now) (StopsBy (IsLineFault text.now)) }
+{
+    let mut tables = no_tables(alloc);
+    let end = read_lines(alloc, text, &mut tables)?;
+    Ok(facts_of(tables, end))
 }

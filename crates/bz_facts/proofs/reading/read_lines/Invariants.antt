@@ -2,7 +2,7 @@
 use Rattle.std.proofs.Common.{length}
 use Rattle.bz_lines.specs.LineReader.{to_come}
 use Rattle.bz_facts.proofs.BetweenLines.{IsReading}
-use Rattle.bz_facts.proofs.reading.read_facts.Given as goal
+use Rattle.bz_facts.proofs.reading.read_lines.Given as goal
 
 abbrev pub invariant-lines : goal.invariant-lines
 invariant-lines l = IsReading l.text l.lines l.tables
