@@ -274,7 +274,7 @@ columns-marker seen l old new e a m h k = record {
     no_entries : is_marker l.fields ≡ true → entries_on (row_names seen) (columns seen) l.fields ≡ []
     no_entries m = ap (λ b. cond b [] (map (entry_of (row_names seen) (place (columns seen) (field 0 l.fields))) (pairs (drop 1 l.fields)))) m
 
-pub columns-entries : (seen : Lines) (l : NumberedLine) (rows : List (List ℕ)) (old new : ColumnTable) → l.header ≡ false → acts Columns seen l ≡ true → is_marker l.fields ≡ false → rows ≡ row_names seen → HoldsColumns seen old → EntriesAdded rows l.fields old new → HoldsColumns (seen ++ l ∷ []) new
+pub columns-entries : (seen : Lines) (l : NumberedLine) (rows : List (List ℕ)) (old new : ColumnTable) → l.header ≡ false → acts Columns seen l ≡ true → is_marker l.fields ≡ false → rows ≡ row_names seen → HoldsColumns seen old → EntriesAdded (field 0 l.fields) (entries_on rows old.names l.fields) old new → HoldsColumns (seen ++ l ∷ []) new
 columns-entries seen l rows old new e a m r h k = record {
   names = k.names ∙ ap (λ ns. with_name ns (field 0 l.fields)) h.names
     ∙ sym (columns_more seen l (field 0 l.fields ∷ []) (grows Columns (λ seen l. if is_marker l.fields then [] else field 0 l.fields ∷ []) seen l a

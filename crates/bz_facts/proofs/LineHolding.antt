@@ -11,6 +11,7 @@ use Rattle.bz_facts.specs.declared.records.Heading.TheVariants.{Name, ObjSense, 
 use Rattle.bz_facts.specs.declared.tables.Columns.{Columns as ColumnTable}
 use Rattle.bz_facts.specs.declared.tables.Tables.{Tables}
 use Rattle.bz_facts.specs.Headings.{Lines, is_in, is_it, section}
+use Rattle.bz_facts.specs.LineFacts.{entries_on}
 use Rattle.bz_facts.specs.LineSteps.{ColumnLineAdded, DataLineAdded, EntriesAdded, HeaderLineAdded, LineAdded, MarkerAdded, data_tests_by, header_tests_by, line_tests_by}
 use Rattle.bz_facts.specs.LineTests.{is_too_long}
 use Rattle.bz_facts.specs.Words.{heading, is_marker}
@@ -36,7 +37,7 @@ header_holds seen l old new e h f a = subst (Holds (seen ++ l ∷ [])) (sym a.ot
   bounds = bounds-stay seen l old.bounds (acts-header Bounds seen l e) h.bounds;
 })
 
-column_line : (seen : Lines) (l : NumberedLine) (old new : Tables) (marker : Bool) → is_marker l.fields ≡ marker → l.header ≡ false → section seen ≡ Some Columns → Holds seen old → MatchBool marker (MarkerAdded l.fields old.columns new.columns) (EntriesAdded old.rows.names l.fields old.columns new.columns) → HoldsColumns (seen ++ l ∷ []) new.columns
+column_line : (seen : Lines) (l : NumberedLine) (old new : Tables) (marker : Bool) → is_marker l.fields ≡ marker → l.header ≡ false → section seen ≡ Some Columns → Holds seen old → MatchBool marker (MarkerAdded l.fields old.columns new.columns) (EntriesAdded (field 0 l.fields) (entries_on old.rows.names old.columns.names l.fields) old.columns new.columns) → HoldsColumns (seen ++ l ∷ []) new.columns
 column_line seen l old new true m e s h a =
     columns-marker seen l old.columns new.columns e (acts-data Columns seen l (Some Columns) e s) m h.columns a
 column_line seen l old new false m e s h a =

@@ -1,5 +1,5 @@
 -- The tests of a line and what it adds, by the tables of the lines before it alone.
-use Rattle.std.specs.Prelude.{ℕ, Bool, true, false, ◌≡◌, ◌==◌, ◌&&◌, ◌||◌, not, nat_le, nat_lt, is_none, bytes_eq, length, drop, flat_map, List, [], ◌∷◌, ◌++◌, Option, Some, None, option_to_list, Result, Ok, Err, if◌then◌else◌}
+use Rattle.std.specs.Prelude.{ℕ, Bool, true, false, ◌+◌, ◌≡◌, ◌==◌, ◌&&◌, ◌||◌, not, nat_le, nat_lt, is_none, bytes_eq, length, drop, flat_map, List, [], ◌∷◌, ◌++◌, Option, Some, None, option_to_list, Result, Ok, Err, if◌then◌else◌}
 use Rattle.std.specs.Bool.{MatchBool}
 use Rattle.std.specs.List.{list_any}
 use Rattle.bz_lines.specs.FieldLists.{Fields as FieldList, field}
@@ -124,16 +124,23 @@ pub record MarkerAdded (fs : FieldList) (old new : ColumnTable) : Type 0 where
   pub opened : new.open ≡ bytes_eq (field 2 fs) opening
   pub current : new.current ≡ None
 
--- a line of entries
-pub record EntriesAdded (rows : List (List ℕ)) (fs : FieldList) (old new : ColumnTable) : Type 0 where
-  pub names : new.names ≡ with_name old.names (field 0 fs)
-  pub integers : new.integers.items ≡ old.integers.items ++ (if is_among old.names (field 0 fs) then [] else old.open ∷ [])
-  pub entries : new.entries ≡ old.entries ++ entries_on rows old.names fs
+-- the tests of a column's entries that come last: doubles, and then the limit
+abbrev pub last_entry_tests : ColumnTable → List ℕ → List Entry → TestList
+last_entry_tests t name more =
+    (repeats is_same_entry t.entries more, DoubleEntry)
+    ∷ ((not (is_among t.names name) && nat_le 2048 (length t.names)) || nat_lt 65536 (length t.entries + length more), Limit)
+    ∷ []
+
+-- entries of a column, which may be new
+pub record EntriesAdded (name : List ℕ) (more : List Entry) (old new : ColumnTable) : Type 0 where
+  pub names : new.names ≡ with_name old.names name
+  pub integers : new.integers.items ≡ old.integers.items ++ (if is_among old.names name then [] else old.open ∷ [])
+  pub entries : new.entries ≡ old.entries ++ more
   pub opened : new.open ≡ old.open
-  pub current : new.current ≡ Some (field 0 fs)
+  pub current : new.current ≡ Some name
 
 abbrev pub ColumnLineAdded : List (List ℕ) → FieldList → ColumnTable → ColumnTable → Type 0
-ColumnLineAdded rows fs old new = MatchBool (is_marker fs) (MarkerAdded fs old new) (EntriesAdded rows fs old new)
+ColumnLineAdded rows fs old new = MatchBool (is_marker fs) (MarkerAdded fs old new) (EntriesAdded (field 0 fs) (entries_on rows old.names fs) old new)
 
 -- RHS and RANGES.
 
