@@ -1,3 +1,4 @@
+pub mod BoundNumbers
 pub mod ColumnLines
 pub mod FactReading
 pub mod Fitness
@@ -11,9 +12,11 @@ pub mod ModelRows
 pub mod ModelSame
 pub mod ModelTexts
 pub mod Once
+pub mod PlacedItems
 pub mod Places
 pub mod Refusals
 pub mod RowReading
+pub mod ScaledNumbers
 pub mod SectionReading
 pub mod SideReading
 pub mod TermReading

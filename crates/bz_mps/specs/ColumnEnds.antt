@@ -77,7 +77,8 @@ abbrev pub is_above : Option Dec → Option Dec → Bool
 is_above (Some a) (Some b) = int_lt (at_thirty b) (at_thirty a)
 is_above _ _ = false
 
--- the upper bound is negative, and no line speaks of the lower one
+-- The upper bound is negative, and no line speaks of the lower one. It was then set by UP or UI: every other kind that sets
+-- an upper bound speaks of the lower one too.
 abbrev pub has_negative_upper : Ends → List BoundLine → Bool
 has_negative_upper e lines = is_negative e.upper && not (list_any (λ b. speaks_of_lower b.kind) lines)
 

@@ -1,9 +1,11 @@
+pub mod ByPlace
 pub mod ColumnEnds
 pub mod ColumnReading
 pub mod FactModel
 pub mod LineReading
 pub mod ModelReading
 pub mod ModelText
+pub mod NumbersMade
 pub mod ReadSections
 pub mod ScaledRows
 pub mod Sections

@@ -1,6 +1,7 @@
 //! Models from their texts.
 #![tactic(auto)]
 
+mod bound_numbers;
 mod laws;
 mod model_bounds;
 mod model_column_lines;
@@ -17,7 +18,9 @@ mod model_sides;
 mod model_terms;
 #[cfg(test)]
 mod model_tests;
+mod placing;
 mod reading;
+mod scaling;
 
 pub use laws::text_has_one_model;
 pub use reading::read_model;
