@@ -1,5 +1,6 @@
 pub mod BoundNumbers
 pub mod ColumnLines
+pub mod EndLemmas
 pub mod FactReading
 pub mod Fitness
 mod FractionLaws

@@ -8,12 +8,8 @@ use Rattle.bz_num.specs.declared.Frac.{Frac}
 use Rattle.bz_facts.specs.declared.BoundLine.{BoundLine}
 use Rattle.bz_facts.specs.declared.BoundType.{BoundType}
 use Rattle.bz_facts.specs.declared.BoundType.TheVariants.{Up, Lo, Fx, Fr, Mi, Pl, Bv, Li, Ui}
+use Rattle.bz_mps.specs.declared.column_ends.Ends.{Ends}
 use Rattle.bz_facts.specs.Spellings.{at_thirty, is_below_zero, zero_dec}
-
--- a lower and an upper bound, where they are there
-pub record Ends : Type 0 where
-  pub lower : Option Dec
-  pub upper : Option Dec
 
 -- 1, as a decimal
 abbrev pub one_dec : Dec

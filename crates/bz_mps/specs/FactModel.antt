@@ -12,7 +12,8 @@ use Rattle.bz_facts.specs.declared.MpsKind.TheVariants.{NegativeUpper, Crossed, 
 use Rattle.bz_facts.specs.declared.RowType.{RowType}
 use Rattle.bz_facts.specs.FactTexts.{IsFactsOf, IsLineFault}
 use Rattle.bz_lines.specs.FirstFault.{IsFirstFailing, NoneFails}
-use Rattle.bz_mps.specs.ColumnEnds.{IsBound, Ends, ends_by, has_negative_upper, is_above, is_integer, last_bound_line, lines_at}
+use Rattle.bz_mps.specs.declared.column_ends.Ends.{Ends}
+use Rattle.bz_mps.specs.ColumnEnds.{IsBound, ends_by, has_negative_upper, is_above, is_integer, last_bound_line, lines_at}
 use Rattle.bz_mps.specs.ScaledRows.{Scaled, constant_of, constraints, cost_of, is_wide_objective, is_wide_row, objective_place, objective_digits, row_at}
 
 abbrev pub fault : ℕ → MpsKind → MpsFault

@@ -9,3 +9,4 @@ pub mod NumbersMade
 pub mod ReadSections
 pub mod ScaledRows
 pub mod Sections
+pub mod TestAnswers

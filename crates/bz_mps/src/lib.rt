@@ -2,6 +2,7 @@
 #![tactic(auto)]
 
 mod bound_numbers;
+mod column_ends;
 mod laws;
 mod model_bounds;
 mod model_column_lines;
