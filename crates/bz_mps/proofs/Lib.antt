@@ -1,5 +1,6 @@
 pub mod BoundNumbers
 pub mod ColumnLines
+pub mod ColumnSteps
 pub mod EndLemmas
 pub mod FactReading
 pub mod Fitness
@@ -21,5 +22,6 @@ pub mod ScaledNumbers
 pub mod SectionReading
 pub mod SideReading
 pub mod TermReading
+pub mod TestLists
 pub mod TextLaws
 mod WorkedEnds

@@ -3,6 +3,7 @@
 
 mod bound_numbers;
 mod column_ends;
+mod columns_made;
 mod laws;
 mod model_bounds;
 mod model_column_lines;
