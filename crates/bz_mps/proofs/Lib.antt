@@ -21,6 +21,7 @@ pub mod RowReading
 pub mod ScaledNumbers
 pub mod SectionReading
 pub mod SideReading
+pub mod TermLemmas
 pub mod TermReading
 pub mod TestLists
 pub mod TextLaws

@@ -7,6 +7,7 @@ pub mod ModelReading
 pub mod ModelText
 pub mod NumbersMade
 pub mod ReadSections
+pub mod RowsMade
 pub mod ScaledRows
 pub mod Sections
 pub mod TestAnswers

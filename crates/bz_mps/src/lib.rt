@@ -22,6 +22,10 @@ mod model_terms;
 mod model_tests;
 mod placing;
 mod reading;
+mod row_facts;
+mod row_sides;
+mod row_terms;
+mod rows_made;
 mod scaling;
 
 pub use laws::text_has_one_model;
