@@ -1,6 +1,7 @@
 pub mod BoundNumbers
 pub mod ColumnLines
 pub mod ColumnSteps
+pub mod DigitLemmas
 pub mod EndLemmas
 pub mod FactReading
 pub mod Fitness
@@ -17,6 +18,7 @@ pub mod Once
 pub mod PlacedItems
 pub mod Places
 pub mod Refusals
+pub mod RowLemmas
 pub mod RowReading
 pub mod ScaledNumbers
 pub mod SectionReading

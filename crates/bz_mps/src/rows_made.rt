@@ -1,6 +1,6 @@
 //! The rows and the objective of a model, from facts.
-ghost use Rattle.std.specs.Prelude.{◌≡◌, ◌<◌, ◌++◌, ◌∷◌, [], ◌||◌, false, length, map, None, IfOk};
-ghost use Rattle.std.specs.List.{AllZip};
+ghost use Rattle.std.specs.Prelude.{◌≡◌, ◌<◌, ◌++◌, ◌∷◌, [], ◌||◌, false, true, length, position, map, None, IfOk};
+ghost use Rattle.std.specs.List.{AllZip, list_any};
 ghost use Rattle.bz_num.specs.Fold.{is_wide};
 ghost use Rattle.std.proofs.Math.IntN.{neg_ℤ};
 ghost use Rattle.bz_facts.specs.LineTests.{is_free as free_kind};
@@ -142,13 +142,22 @@ fn objective_with(
     }))
 }
 
+/// The place of the first row of kind N, if there is one.
+fn first_free(kinds: &[RowType]) -> Option<usize>
+    ensures { result ≡ position free_kind kinds.now }
+{
+    kinds.iter().position(|kind| is_free(*kind))
+}
+
 /// The place of the objective among all rows.
 pub(crate) fn objective_place(kinds: &[RowType]) -> usize
-    ensures { result ≡ place_of_objective kinds.now }
+    requires { list_any free_kind kinds.now ≡ true }
+    ensures place { result ≡ place_of_objective kinds.now }
+    ensures inside { result < length kinds.now }
 {
-    match kinds.iter().position(|kind| is_free(*kind)) {
+    match first_free(kinds) {
         Some(place) => place,
-        None => kinds.len(),
+        None => unreachable!(),
     }
 }
 
