@@ -6,7 +6,7 @@ use Rattle.std.specs.Option.{ForSome, option_map, option_to_list, unwrap_or}
 use Rattle.std.proofs.Math.IntN.{neg_ℤ}
 use Rattle.std.proofs.Math.Seq.{take-length}
 use Rattle.std.proofs.lemmas.Bool.{eqb-false}
-use Rattle.std.proofs.lemmas.List.{append-nil, map-append, take_more}
+use Rattle.std.proofs.lemmas.List.{append-nil, get_or_default, length-map, map-append, take_more}
 use Rattle.std.proofs.lemmas.List.Elements.{filter-append}
 use Rattle.std.proofs.lemmas.List.FromFn.{get_or-enumerate_from, length-enumerate_from}
 use Rattle.std.proofs.lemmas.Map.Keys.{IsDistinct-head, IsDistinct-tail}
@@ -25,8 +25,11 @@ use Rattle.bz_facts.specs.LineTests.{is_free, is_same_entry}
 use Rattle.bz_facts.specs.SoundFacts.{AreSound, IsEntryAmong, IsGivenAmong, NeverFallFrom}
 use Rattle.bz_facts.specs.Spellings.{zero_dec}
 use Rattle.bz_mps.specs.FactModel.{IsRowOf, IsRowWith, end_test_at_row, fault}
-use Rattle.bz_mps.specs.RowsMade.{AreRowFacts, RiseFrom, Unless}
-use Rattle.bz_mps.specs.ScaledRows.{Scaled, constraints, decimals_of, entries_at, given_at, is_wide_row, right_side_at, row_at, scaled_row}
+use Rattle.bz_mps.specs.RowsMade.{AreRowFacts, IsObjectiveWith, RiseFrom, Unless}
+use Rattle.bz_mps.specs.declared.rows_made.Objective.{Objective}
+use Rattle.bz_mps.specs.ByPlace.{AreByPlace}
+use Rattle.bz_num.specs.Fold.{is_wide}
+use Rattle.bz_mps.specs.ScaledRows.{Scaled, constraints, decimals_of, entries_at, given_at, has_wide_term, is_wide_objective, is_wide_row, most_digits, objective_entries, objective_side, right_side_at, row_at, scaled, scaled_row, terms_by}
 use Rattle.bz_mps.proofs.ColumnSteps.{all_kept, all_weaker}
 use Rattle.bz_mps.proofs.EndLemmas.{fails_first}
 use Rattle.bz_mps.proofs.TestLists.{none_append, numbered_at, split_at}
@@ -196,3 +199,29 @@ row_stops f i t h e free passed wide = record {
 pub all_rows : (types : List RowType) (i : ℕ) → i ≡ length types → filter (λ r. not (is_free r.1)) (take i (enumerate_from 0 types)) ≡ constraints types
 all_rows types i e =
     ap (filter (λ r. not (is_free r.1))) (ap (λ n. take n (enumerate_from 0 types)) (e ∙ sym (length-enumerate_from 0 types)) ∙ take-length (enumerate_from 0 types))
+
+-- a kind that is read
+pub kind_read : (kinds types : List RowType) (i : ℕ) (d : RowType) → kinds ≡ types → i < length types → get_or kinds i d ≡ get_or types i (get_or kinds i d)
+kind_read kinds types i d e h = ap (λ ks. get_or ks i d) e ∙ get_or_default types i d (get_or kinds i d) h
+
+-- an answer that is there, and one that is not
+pub unless_some : {X : Type 0} (b : Bool) (P : X → Type 0) (o : Option X) (x : X) → o ≡ Some x → Unless b P o → (b ≡ false) × P x
+unless_some b P o x e h = subst (Unless b P) e h
+
+pub unless_none : {X : Type 0} (b : Bool) (P : X → Type 0) (o : Option X) → o ≡ None → Unless b P o → b ≡ true
+unless_none b P o e h = subst (Unless b P) e h
+
+-- The objective.
+
+-- the number of lists is that of the rows
+pub inside_lists : {X V : Type 0} (place : X → ℕ) (items : V → List X) (count : ℕ) (xs : List X) (vs : List V) (i : ℕ) → AreByPlace place count xs (map items vs) → i < count → i < length vs
+inside_lists place items count xs vs i t h = subst (λ n. i < n) (sym (sym (length-map vs items) ∙ t.many)) h
+
+pub objective_is : (f : Facts) (entries : List Entry) (rhs : Dec) (o : Objective) → entries ≡ objective_entries f → rhs ≡ objective_side f → IsObjectiveWith entries rhs o → IsObjectiveWith (objective_entries f) (objective_side f) o
+objective_is f entries rhs o e s h = subst (λ (d : Dec). IsObjectiveWith (objective_entries f) d o) s (subst (λ (es : List Entry). IsObjectiveWith es rhs o) e h)
+
+pub wide_objective_is : (f : Facts) (entries : List Entry) (rhs : Dec) (b : Bool) → entries ≡ objective_entries f → rhs ≡ objective_side f
+    → (has_wide_term (terms_by (most_digits (decimals_of entries rhs None)) entries) || is_wide (neg_ℤ (scaled (most_digits (decimals_of entries rhs None)) rhs))) ≡ b → is_wide_objective f ≡ b
+wide_objective_is f entries rhs b e s h =
+    subst (λ (d : Dec). (has_wide_term (terms_by (most_digits (decimals_of (objective_entries f) d None)) (objective_entries f)) || is_wide (neg_ℤ (scaled (most_digits (decimals_of (objective_entries f) d None)) d))) ≡ b) s
+    (subst (λ (es : List Entry). (has_wide_term (terms_by (most_digits (decimals_of es rhs None)) es) || is_wide (neg_ℤ (scaled (most_digits (decimals_of es rhs None)) rhs))) ≡ b) e h)

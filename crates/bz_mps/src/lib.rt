@@ -5,6 +5,7 @@ mod bound_numbers;
 mod column_ends;
 mod columns_made;
 mod laws;
+mod making;
 mod model_bounds;
 mod model_column_lines;
 mod model_columns;
@@ -29,4 +30,5 @@ mod rows_made;
 mod scaling;
 
 pub use laws::text_has_one_model;
+pub use making::model_of;
 pub use reading::read_model;
