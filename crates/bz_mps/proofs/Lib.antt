@@ -10,6 +10,7 @@ pub mod Fronts
 pub mod HeadLines
 pub mod ModelColumns
 pub mod ModelLaws
+pub mod ModelLemmas
 pub mod ModelMade
 pub mod ModelRows
 pub mod ModelSame
