@@ -13,14 +13,14 @@ use Rattle.bz_mps.specs.RowsMade.{AreScalable}
 use Rattle.bz_mps.specs.ScaledRows.{decimals_of, digits_behind_point, most_digits}
 
 -- the greatest number of digits, from k on
-abbrev most_from : ℕ → List Dec → ℕ
+abbrev pub most_from : ℕ → List Dec → ℕ
 most_from k ds = fold (λ k d. max k (digits_behind_point d)) k ds
 
 from_below : (k : ℕ) (ds : List Dec) → k ≤ most_from k ds
 from_below k [] = omega arith
 from_below k (d ∷ ds) = let more = from_below (max k (digits_behind_point d)) ds in omega arith
 
-each_below : (k : ℕ) (ds : List Dec) → AllByRecursion (λ d. digits_behind_point d ≤ most_from k ds) ds
+pub each_below : (k : ℕ) (ds : List Dec) → AllByRecursion (λ d. digits_behind_point d ≤ most_from k ds) ds
 each_below k [] = tt
 each_below k (d ∷ ds) = (let more = from_below (max k (digits_behind_point d)) ds in omega arith, each_below (max k (digits_behind_point d)) ds)
 

@@ -21,6 +21,7 @@ pub mod Places
 pub mod Refusals
 pub mod RowLemmas
 pub mod RowReading
+pub mod ScaleLaws
 pub mod ScaledNumbers
 pub mod SectionReading
 pub mod SideReading

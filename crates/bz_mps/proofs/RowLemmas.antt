@@ -114,13 +114,14 @@ or_zero_within : (o : Option Dec) → AllByRecursion IsWithinLimits (option_to_l
 or_zero_within None h = zero_within
 or_zero_within (Some d) h = h.0
 
-within_of : (entries : List Entry) (rhs : Dec) (range : Option Dec) → AllByRecursion (λ e. IsWithinLimits e.number) entries → IsWithinLimits rhs → AllByRecursion IsWithinLimits (option_to_list range) → AllByRecursion IsWithinLimits (decimals_of entries rhs range)
-within_of [] rhs range h k g = (k, g)
-within_of (e ∷ es) rhs range h k g = (h.0, within_of es rhs range h.1 k g)
+-- what holds of each number of a row holds of its decimals
+pub all_decimals : (P : Dec → Type 0) (entries : List Entry) (rhs : Dec) (range : Option Dec) → AllByRecursion (λ e. P e.number) entries → P rhs → AllByRecursion P (option_to_list range) → AllByRecursion P (decimals_of entries rhs range)
+all_decimals P [] rhs range h k g = (k, g)
+all_decimals P (e ∷ es) rhs range h k g = (h.0, all_decimals P es rhs range h.1 k g)
 
 pub row_facts_sound : (f : Facts) (r : ℕ) → AreSound f → AreRowFacts (entries_at r f.entries) (right_side_at f r) (given_at r f.ranges)
 row_facts_sound f r s = record {
-  within = within_of (entries_at r f.entries) (right_side_at f r) (given_at r f.ranges)
+  within = all_decimals IsWithinLimits (entries_at r f.entries) (right_side_at f r) (given_at r f.ranges)
       (all_kept (λ e. IsWithinLimits e.number) (λ e. e.row == r) f.entries (all_weaker (IsEntryAmong (length f.columns) (length f.row_names)) (λ e. IsWithinLimits e.number) (λ e h. h.within) f.entries s.entries))
       (or_zero_within (given_at r f.right_sides) (found_within r (length f.row_names) f.right_sides s.right_sides))
       (found_within r (length f.row_names) f.ranges s.ranges);
@@ -129,7 +130,7 @@ row_facts_sound f r s = record {
 
 pub objective_facts_sound : (f : Facts) (r : ℕ) → AreSound f → AreRowFacts (entries_at r f.entries) (right_side_at f r) None
 objective_facts_sound f r s = record {
-  within = within_of (entries_at r f.entries) (right_side_at f r) None
+  within = all_decimals IsWithinLimits (entries_at r f.entries) (right_side_at f r) None
       (all_kept (λ e. IsWithinLimits e.number) (λ e. e.row == r) f.entries (all_weaker (IsEntryAmong (length f.columns) (length f.row_names)) (λ e. IsWithinLimits e.number) (λ e h. h.within) f.entries s.entries))
       (or_zero_within (given_at r f.right_sides) (found_within r (length f.row_names) f.right_sides s.right_sides)) tt;
   rising = rise_at 0 r f.entries s.in_order s.entries_once;

@@ -2,6 +2,7 @@ pub mod ByPlace
 pub mod ColumnEnds
 pub mod ColumnReading
 pub mod FactModel
+pub mod LeastScale
 pub mod LineReading
 pub mod ModelReading
 pub mod ModelText

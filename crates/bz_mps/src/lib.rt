@@ -10,6 +10,7 @@ mod model_bounds;
 mod model_column_lines;
 mod model_columns;
 mod model_facts;
+mod model_laws;
 mod model_lines;
 mod model_made;
 mod model_made_rows;
@@ -31,4 +32,7 @@ mod scaling;
 
 pub use laws::text_has_one_model;
 pub use making::model_of;
+pub use model_laws::{
+    models_fit, mps_text_has_one_fault, mps_text_has_one_model, scale_is_least,
+};
 pub use reading::read_model;

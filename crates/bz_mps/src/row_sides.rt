@@ -5,6 +5,7 @@ ghost use Rattle.std.specs.Int.RustNames.{unsigned_abs};
 ghost use Rattle.std.specs.Option.{ForSome, option_map};
 ghost use Rattle.bz_algebra.specs.Numbers.{IsNarrow};
 ghost use Rattle.bz_facts.specs.LineTests.{is_free};
+ghost use Rattle.bz_facts.specs.Spellings.{is_below_zero};
 ghost use Rattle.bz_mps.specs.NumbersMade.{IsScalable};
 ghost use Rattle.bz_mps.specs.RowsMade.{AreSides, Unless};
 ghost use Rattle.bz_mps.specs.ScaledRows.{is_wide_side, lower_side, scaled, upper_side};
@@ -38,6 +39,13 @@ fn below(side: i128, digits: u32, range: Dec) -> Option<i128>
     lowered(side, scaled_size(digits, range)?)
 }
 
+/// Whether the range of an E row reaches below the right side.
+fn reaches_below(range: Dec) -> bool
+    ensures { result ≡ is_below_zero range }
+{
+    range.mant < 0
+}
+
 /// The lower side of a row with this right side, as far as it has one, and nothing where that is wide.
 fn lower_of(kind: RowType, side: i128, digits: u32, range: Option<Dec>) -> Option<Option<i128>>
     requires narrow { IsNarrow side }
@@ -48,7 +56,7 @@ fn lower_of(kind: RowType, side: i128, digits: u32, range: Option<Dec>) -> Optio
         (RowType::Free, _) | (RowType::AtMost, None) => Some(None),
         (RowType::AtMost, Some(range)) => Some(Some(below(side, digits, range)?)),
         (RowType::AtLeast, _) | (RowType::Equal, None) => Some(Some(side)),
-        (RowType::Equal, Some(range)) => if range.mant < 0 {
+        (RowType::Equal, Some(range)) => if reaches_below(range) {
             Some(Some(below(side, digits, range)?))
         } else {
             Some(Some(side))
@@ -66,7 +74,7 @@ fn upper_of(kind: RowType, side: i128, digits: u32, range: Option<Dec>) -> Optio
         (RowType::Free, _) | (RowType::AtLeast, None) => Some(None),
         (RowType::AtLeast, Some(range)) => Some(Some(above(side, digits, range)?)),
         (RowType::AtMost, _) | (RowType::Equal, None) => Some(Some(side)),
-        (RowType::Equal, Some(range)) => if range.mant < 0 {
+        (RowType::Equal, Some(range)) => if reaches_below(range) {
             Some(Some(side))
         } else {
             Some(Some(above(side, digits, range)?))
