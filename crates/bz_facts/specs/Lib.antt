@@ -1,7 +1,13 @@
 pub mod FactTexts
 pub mod Headings
+pub mod LineAnswers
 pub mod LineFacts
+pub mod LineSteps
+pub mod LineStops
 pub mod LineTests
+pub mod RowCounts
 pub mod SoundFacts
 pub mod Spellings
+pub mod TableFacts
+pub mod TableNotes
 pub mod Words

@@ -25,8 +25,8 @@ as_spelled (Ok d) = number d
 as_spelled (Err (Form at)) = no_number
 as_spelled (Err NumTooWide) = too_wide
 
--- What a field is as a number, byte by byte. That it is so is a law, `spelled_is_exact`: IsSpelled holds of each field
--- and what it is, and of nothing else.
+-- What a field is as a number, byte by byte. That it is so is a law, `fields_spell_one_number`: IsSpelled holds of each
+-- field of fewer than 2^64 bytes and what it is, and of nothing else.
 unfoldable pub spelled : List ℕ → Spelled
 spelled word =
     option_map_or (λ r. as_spelled (end_of r (length word))) (fold (λ o b. option_and_then (λ r. read_on r (kind_of b)) o) (Some start) word) no_number

@@ -1,4 +1,5 @@
 //! Why a model's text is refused.
+use bz_lines::LineFault;
 use bz_num::OutOfMemory;
 use std::alloc::{AllocError, AllocFailed};
 
@@ -100,5 +101,22 @@ impl From<OutOfMemory> for MpsStop {
 
     fn from(_error: OutOfMemory) -> MpsStop {
         MpsStop::OutOfMemory
+    }
+}
+
+impl From<LineFault> for MpsStop {
+    ghost use Rattle.std.specs.Prelude.{◌≡◌};
+    ghost use Rattle.bz_facts.specs.LineStops.{stop_by};
+
+    ghost from_gives = { λ fault stop. stop ≡ stop_by fault };
+
+    fn from(fault: LineFault) -> MpsStop {
+        match fault {
+            LineFault::NotText { line } => MpsStop::Fault(MpsFault {
+                line,
+                kind: MpsKind::NotText,
+            }),
+            LineFault::OutOfMemory => MpsStop::OutOfMemory,
+        }
     }
 }

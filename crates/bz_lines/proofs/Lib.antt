@@ -1,6 +1,7 @@
 pub mod BeforeLemmas
 pub mod FieldLemmas
 pub mod FirstFaults
+pub mod LineLemmas
 pub mod ListLemmas
 pub mod NameLemmas
 pub mod Refusals

@@ -21,7 +21,7 @@ fn pieces<'a>(alloc: Global, text: &'a [u8]) -> Result<Vec<&'a [u8]>, AllocError
 }
 
 /// The line without the one carriage return at its end.
-fn without_return(line: &[u8]) -> &[u8]
+pub(crate) fn without_return(line: &[u8]) -> &[u8]
     ensures { result.now ≡ strip_carriage_return line.now }
 {
     match line {
@@ -31,7 +31,10 @@ fn without_return(line: &[u8]) -> &[u8]
 }
 
 /// The pieces without the carriage returns at their ends.
-fn without_returns<'a>(alloc: Global, pieces: &[&'a [u8]]) -> Result<Vec<&'a [u8]>, AllocError>
+pub(crate) fn without_returns<'a>(
+    alloc: Global,
+    pieces: &[&'a [u8]],
+) -> Result<Vec<&'a [u8]>, AllocError>
     ensures { IfOk result (λ found. map (λ l. l.now) found.items ≡ map (λ p. strip_carriage_return p.now) pieces.now) }
 {
     let mut found = Vec::new(alloc);

@@ -1,0 +1,62 @@
+//! Worked lines.
+use crate::form::FormStop;
+use crate::reader::{Line, LineFault, Lines};
+use std::alloc::Global;
+use std::test::Fail;
+
+/// A line as text: its number's last digit, `H` or `D`, and each field behind a bar.
+fn show(shown: &mut Vec<u8>, line: &Line) -> Result<(), FormStop> {
+    shown.push(b'0' + (line.number % 10) as u8)?;
+    shown.push(if line.header { b'H' } else { b'D' })?;
+    for field in line.fields.as_slice() {
+        shown.push(b'|')?;
+        shown.extend_from_slice(*field)?;
+    }
+    shown.push(b';')?;
+    Ok(())
+}
+
+/// The lines of a text as text. A refused line is its number and `!`, and the count of all lines stands last.
+fn lines_of(alloc: Global, text: &[u8]) -> Result<Vec<u8>, FormStop> {
+    let mut shown = Vec::new(alloc);
+    if text.len() > 100 {
+        return Ok(shown);
+    }
+    let mut lines = Lines::new(text);
+    for _ in 0..9 {
+        match lines.next(alloc) {
+            Ok(Some(line)) => show(&mut shown, &line)?,
+            Ok(None) => break,
+            Err(LineFault::NotText { line }) => {
+                shown.push(b'0' + (line % 10) as u8)?;
+                shown.push(b'!')?;
+            }
+            Err(LineFault::OutOfMemory) => return Err(FormStop::OutOfMemory),
+        }
+    }
+    shown.push(b'0' + (lines.number() % 10) as u8)?;
+    Ok(shown)
+}
+
+#[test]
+fn reads_worked_lines(rt: HostRuntime) -> Result<(), Fail> {
+    for (text, lines) in [
+        (b"".as_slice(), b"0".as_slice()),
+        (b"NAME X\n  a\tb \r\n", b"1H|NAME|X;2D|a|b;2"),
+        (b"* any \x01 byte\n\n \t \r\n x", b"4D|x;4"),
+        (b" *x\n*x\n", b"1D|*x;2"),
+        (b"a\r", b"1!1"),
+        (b"a\r\r\nb", b"1!2H|b;2"),
+        (b"\x1f\n\n", b"1!2"),
+        (b"\r\n", b"1"),
+        (b"\x7f\xff a", b"1H|\x7f\xff|a;1"),
+        (b"1 2 3 4 5 6 7 8 9 10", b"1H|1|2|3|4|5|6|7|8|9|10;1"),
+    ] {
+        let shown = lines_of(rt.alloc(), text);
+        assert!(rt; shown.is_ok());
+        if let Ok(shown) = shown {
+            assert_eq!(rt; shown.as_slice(), lines);
+        }
+    }
+    Ok(())
+}
