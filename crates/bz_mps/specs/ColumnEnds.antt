@@ -8,12 +8,8 @@ use Rattle.bz_num.specs.declared.Frac.{Frac}
 use Rattle.bz_facts.specs.declared.BoundLine.{BoundLine}
 use Rattle.bz_facts.specs.declared.BoundType.{BoundType}
 use Rattle.bz_facts.specs.declared.BoundType.TheVariants.{Up, Lo, Fx, Fr, Mi, Pl, Bv, Li, Ui}
+use Rattle.bz_mps.specs.declared.column_ends.Ends.{Ends}
 use Rattle.bz_facts.specs.Spellings.{at_thirty, is_below_zero, zero_dec}
-
--- a lower and an upper bound, where they are there
-pub record Ends : Type 0 where
-  pub lower : Option Dec
-  pub upper : Option Dec
 
 -- 1, as a decimal
 abbrev pub one_dec : Dec
@@ -77,7 +73,8 @@ abbrev pub is_above : Option Dec → Option Dec → Bool
 is_above (Some a) (Some b) = int_lt (at_thirty b) (at_thirty a)
 is_above _ _ = false
 
--- the upper bound is negative, and no line speaks of the lower one
+-- The upper bound is negative, and no line speaks of the lower one. It was then set by UP or UI: every other kind that sets
+-- an upper bound speaks of the lower one too.
 abbrev pub has_negative_upper : Ends → List BoundLine → Bool
 has_negative_upper e lines = is_negative e.upper && not (list_any (λ b. speaks_of_lower b.kind) lines)
 

@@ -12,33 +12,34 @@ use Rattle.bz_facts.specs.declared.MpsKind.TheVariants.{NegativeUpper, Crossed, 
 use Rattle.bz_facts.specs.declared.RowType.{RowType}
 use Rattle.bz_facts.specs.FactTexts.{IsFactsOf, IsLineFault}
 use Rattle.bz_lines.specs.FirstFault.{IsFirstFailing, NoneFails}
-use Rattle.bz_mps.specs.ColumnEnds.{IsBound, Ends, ends_by, has_negative_upper, is_above, is_integer, last_bound_line, lines_at}
-use Rattle.bz_mps.specs.ScaledRows.{Scaled, constant_of, constraints, cost_of, is_wide_objective, is_wide_row, objective_place, objective_power, row_at}
+use Rattle.bz_mps.specs.declared.column_ends.Ends.{Ends}
+use Rattle.bz_mps.specs.ColumnEnds.{IsBound, ends_by, has_negative_upper, is_above, is_integer, last_bound_line, lines_at}
+use Rattle.bz_mps.specs.ScaledRows.{Scaled, constant_of, constraints, cost_of, is_wide_objective, is_wide_row, objective_place, objective_digits, row_at}
 
 abbrev pub fault : ℕ → MpsKind → MpsFault
 fault line kind = record { line = line; kind = kind }
 
 -- the end tests of a column with these bounds and bound lines: both faults stand at the last of the lines
-abbrev pub column_tests : Ends → List BoundLine → List (Bool × MpsFault)
-column_tests e lines =
+abbrev pub end_tests_of_column : Ends → List BoundLine → List (Bool × MpsFault)
+end_tests_of_column e lines =
     (has_negative_upper e lines, fault (last_bound_line lines) NegativeUpper)
     ∷ (is_above e.lower e.upper, fault (last_bound_line lines) Crossed)
     ∷ []
 
 -- those of a column with its place and whether a marker was open
-abbrev pub column_tests_at : List BoundLine → ℕ × Bool → List (Bool × MpsFault)
-column_tests_at bounds c = column_tests (ends_by c.1 (lines_at c.0 bounds)) (lines_at c.0 bounds)
+abbrev pub end_tests_at_column : List BoundLine → ℕ × Bool → List (Bool × MpsFault)
+end_tests_at_column bounds c = end_tests_of_column (ends_by c.1 (lines_at c.0 bounds)) (lines_at c.0 bounds)
 
 -- the end test of a row: its fault stands at ENDATA
-abbrev pub row_test_at : Facts → ℕ × RowType → Bool × MpsFault
-row_test_at f r = (is_wide_row (row_at f r), fault f.end TooWide)
+abbrev pub end_test_at_row : Facts → ℕ × RowType → Bool × MpsFault
+end_test_at_row f r = (is_wide_row (row_at f r), fault f.end TooWide)
 
 -- the end tests in order: the columns, the objective, the rows
 unfoldable pub end_tests : Facts → List (Bool × MpsFault)
 end_tests f =
-    flat_map (column_tests_at f.bounds) (enumerate_from 0 f.integers)
+    flat_map (end_tests_at_column f.bounds) (enumerate_from 0 f.integers)
     ++ (is_wide_objective f, fault f.end TooWide)
-    ∷ map (row_test_at f) (constraints f.row_types)
+    ∷ map (end_test_at_row f) (constraints f.row_types)
 
 -- the column of the model has this name, and the bounds that its lines make
 pub record IsColumnWith (name : List ℕ) (marked : Bool) (lines : List BoundLine) (column : Column) : Type 0 where
@@ -62,14 +63,15 @@ pub record IsRowWith (name : List ℕ) (scaled : Scaled) (row : Row) : Type 0 wh
 abbrev pub IsRowOf : Facts → ℕ × RowType → Row → Type 0
 IsRowOf f r row = IsRowWith (slice_index_or f.row_names r.0 []) (row_at f r) row
 
--- the facts make this model: columns and rows stand in file order
+-- The facts make this model: columns and rows stand in file order. (Each column of a text says whether a marker was open,
+-- so that the model has as many columns as the text names: `as_many_columns`.)
 pub record IsModelOf (f : Facts) (m : Model) : Type 0 where
   pub columns : AllZip (IsColumnOf f.bounds) (enumerate_from 0 (zip f.columns f.integers)) m.columns
   pub rows : AllZip (IsRowOf f) (constraints f.row_types) m.rows
   pub objective : m.objective ≡ slice_index_or f.row_names (objective_place f.row_types) []
   pub cost : m.cost ≡ cost_of f
   pub constant : m.constant ≡ constant_of f
-  pub scale : m.scale ≡ pos (10 ^ objective_power f)
+  pub scale : m.scale ≡ pos (10 ^ objective_digits f)
   pub maximise : m.maximise ≡ f.maximise
 
 -- the first end test that fails

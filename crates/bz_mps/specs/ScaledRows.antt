@@ -14,13 +14,13 @@ use Rattle.bz_facts.specs.LineTests.{is_free}
 use Rattle.bz_facts.specs.Spellings.{zero_dec}
 
 -- the digits of a decimal behind its point
-abbrev pub places : Dec → ℕ
-places d = if int_lt d.exp (pos 0) then unsigned_abs d.exp else 0
+abbrev pub digits_behind_point : Dec → ℕ
+digits_behind_point d = if int_lt d.exp (pos 0) then unsigned_abs d.exp else 0
 
--- The least power of ten that makes all the decimals whole: the greatest number of digits behind a point. (No decimal
--- has a zero at its end.)
-abbrev pub power_of_all : List Dec → ℕ
-power_of_all ds = fold (λ k d. max k (places d)) 0 ds
+-- The greatest number of digits that one of the decimals has behind its point. Ten to this power is the least power of
+-- ten that makes them all whole, which is a law, `scale_is_least`: no decimal of a text has a zero at its end.
+abbrev pub most_digits : List Dec → ℕ
+most_digits ds = fold (λ k d. max k (digits_behind_point d)) 0 ds
 
 -- the decimal, 10^k times as large: a whole number where it has at most k digits behind its point
 abbrev pub scaled : ℕ → Dec → ℤ
@@ -58,9 +58,13 @@ upper_side AtMost rhs range = Some rhs
 upper_side AtLeast rhs range = option_map (λ r. rhs +ℤ pos (unsigned_abs r)) range
 upper_side Equal rhs range = Some (let r = unwrap_or range (pos 0) in if int_lt r (pos 0) then rhs else rhs +ℤ r)
 
+-- the decimals that make a row: those of its entries, its right side, and its range where it has one
+abbrev pub decimals_of : List Entry → Dec → Option Dec → List Dec
+decimals_of entries rhs range = map (λ e. e.number) entries ++ rhs ∷ option_to_list range
+
 abbrev pub scaled_row : RowType → List Entry → Dec → Option Dec → Scaled
 scaled_row t entries rhs range =
-    let k = power_of_all (map (λ e. e.number) entries ++ rhs ∷ option_to_list range) in
+    let k = most_digits (decimals_of entries rhs range) in
     record {
       terms = terms_by k entries;
       lower = lower_side t (scaled k rhs) (option_map (scaled k) range);
@@ -89,16 +93,16 @@ objective_entries f = entries_at (objective_place f.row_types) f.entries
 abbrev pub objective_side : Facts → Dec
 objective_side f = right_side_at f (objective_place f.row_types)
 
--- the power of ten of the objective, whose range is ignored
-abbrev pub objective_power : Facts → ℕ
-objective_power f = power_of_all (map (λ e. e.number) (objective_entries f) ++ objective_side f ∷ [])
+-- the greatest number of digits behind a point in the objective, whose range is ignored
+abbrev pub objective_digits : Facts → ℕ
+objective_digits f = most_digits (decimals_of (objective_entries f) (objective_side f) None)
 
 abbrev pub cost_of : Facts → List (ℕ × ℤ)
-cost_of f = terms_by (objective_power f) (objective_entries f)
+cost_of f = terms_by (objective_digits f) (objective_entries f)
 
 -- the constant is the right side with the other sign
 abbrev pub constant_of : Facts → ℤ
-constant_of f = neg_ℤ (scaled (objective_power f) (objective_side f))
+constant_of f = neg_ℤ (scaled (objective_digits f) (objective_side f))
 
 abbrev pub has_wide_term : List (ℕ × ℤ) → Bool
 has_wide_term terms = list_any (λ t. is_wide t.1) terms
