@@ -1,1 +1,3 @@
+pub mod CertFaults
+pub mod CertText
 pub mod Shapes

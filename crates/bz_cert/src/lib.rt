@@ -1,6 +1,9 @@
 //! Certificates and their texts.
 #![tactic(auto)]
 
+mod faults;
 mod records;
+mod words;
 
+pub use faults::{CertFault, CertKind, CertStop};
 pub use records::{Certificate, Verdict};
