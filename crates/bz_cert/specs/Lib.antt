@@ -1,3 +1,4 @@
 pub mod CertFaults
+pub mod CertReading
 pub mod CertText
 pub mod Shapes

@@ -1,5 +1,8 @@
 //! What is wrong with a text that is no certificate's.
-use bz_num::OutOfMemory;
+ghost use Rattle.std.specs.Prelude.{◌≡◌};
+ghost use Rattle.bz_cert.specs.declared.faults.CertStop.{CertStop};
+
+use std::alloc::{AllocError, AllocFailed};
 
 /// What a text breaks on a line.
 #[derive(Clone, Copy, Debug, PartialEq, Eq)]
@@ -40,10 +43,31 @@ pub enum CertStop {
     OutOfMemory,
 }
 
-impl From<OutOfMemory> for CertStop {
+impl From<AllocError> for CertStop {
     ghost use Rattle.std.specs.Prelude.{◌≡◌};
+    ghost use Rattle.bz_cert.specs.declared.faults.CertStop.TheVariants.{OutOfMemory};
 
-    fn from(_error: OutOfMemory) -> CertStop {
+    ghost from_gives = { λ _ e. e ≡ OutOfMemory };
+
+    fn from(_error: AllocError) -> CertStop {
         CertStop::OutOfMemory
     }
+}
+
+impl<T: Drop> From<AllocFailed<T>> for CertStop {
+    ghost use Rattle.std.specs.Prelude.{◌≡◌};
+    ghost use Rattle.bz_cert.specs.declared.faults.CertStop.TheVariants.{OutOfMemory};
+
+    ghost from_gives = { λ _ e. e ≡ OutOfMemory };
+
+    fn from(_error: AllocFailed<T>) -> CertStop {
+        CertStop::OutOfMemory
+    }
+}
+
+/// The stop at a line that fails.
+pub(crate) fn fault(line: u32, kind: CertKind) -> CertStop
+    ensures { result ≡ CertStop.Fault (record { line = line; kind = kind }) }
+{
+    CertStop::Fault(CertFault { line, kind })
 }

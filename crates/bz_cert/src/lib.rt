@@ -3,6 +3,7 @@
 
 mod faults;
 mod records;
+mod spelling;
 mod words;
 
 pub use faults::{CertFault, CertKind, CertStop};

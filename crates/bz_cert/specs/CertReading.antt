@@ -1,0 +1,102 @@
+-- What the parts of a certificate's text say, and how a part fails.
+use Rattle.std.specs.Prelude.{ℕ, suc, ℤ, pos, ◌≡◌, ◌≢◌, ◌+◌, ◌<◌, ◌≤◌, ◌^◌, List, [], ◌∷◌, ◌++◌, length, Option, Some, None, Result, Ok, Err, nat_lt}
+use Rattle.std.specs.Fmt.{signed_decimal}
+use Rattle.std.specs.List.{AllByRecursion, flat_map}
+use Rattle.bz_algebra.specs.Numbers.{IsNarrow}
+use Rattle.bz_algebra.specs.Sums.{AllBelow}
+use Rattle.bz_num.specs.Row.{IsSparse}
+use Rattle.bz_cert.specs.declared.faults.CertKind.{CertKind}
+use Rattle.bz_cert.specs.declared.faults.CertStop.{CertStop}
+use Rattle.bz_cert.specs.declared.records.Verdict.{Verdict}
+use Rattle.bz_cert.specs.declared.words.Word.{Word}
+use Rattle.bz_cert.specs.CertText.{CertLine, laid_out, spelled, sparse_numbers, word_bytes, line_bytes}
+use Rattle.bz_cert.specs.CertFaults.{AreEnough, AreInOrder, BeginsWith, FailsAtOnce, IsIndex, IsPossible, IsTooMany, Passes, Standing, blocks_in, cuts_in, splits_in, leaves_in, told_in, indexes_of, words_behind}
+
+-- how a stop fails, where it is not for want of memory
+abbrev pub StopsAs : (ℕ → CertKind → Type 0) → CertStop → Type 0
+StopsAs Fails (CertStop.Fault fault) = Fails fault.line fault.kind
+StopsAs Fails CertStop.OutOfMemory = Unit {0}
+
+-- An answer is as P says, and a refusal names a line and a kind as Fails says; want of memory tells nothing.
+abbrev pub Answers : {X : Type 0} → (X → Type 0) → (ℕ → CertKind → Type 0) → Result X CertStop → Type 0
+Answers P Fails (Ok x) = P x
+Answers P Fails (Err stop) = StopsAs Fails stop
+
+-- the field is the number in decimal, which is not wide
+pub record IsSpelled (field : List ℕ) (z : ℤ) : Type 0 where
+  pub spelling : field ≡ signed_decimal z
+  pub narrow : IsNarrow z
+
+-- the bytes are those of the numbers, each behind one blank, and none is wide
+pub record AreNumbers (bytes : List ℕ) (numbers : List ℤ) : Type 0 where
+  pub spelling : bytes ≡ spelled numbers
+  pub narrow : AllByRecursion IsNarrow numbers
+
+-- the same, and the counts and indexes of a line of the word are from 0 to 2 ^ 32 - 1
+pub record AreNumbersOf (word : Word) (bytes : List ℕ) (numbers : List ℤ) : Type 0 where
+  pub numbers_are : AreNumbers bytes numbers
+  pub indexes : AllByRecursion IsIndex (indexes_of word numbers)
+
+-- a fault of one kind on one line
+abbrev pub Only : ℕ → CertKind → Type 0 → ℕ → CertKind → Type 0
+Only line kind P number found = (number ≡ line) × (found ≡ kind) × P
+
+-- the standing one line on
+abbrev pub advance : Standing → CertLine → Standing
+advance before line = record {
+  last = Some line.word;
+  blocks = before.blocks + blocks_in line.word;
+  told = before.told + told_in line.word line.numbers;
+  cuts = before.cuts + cuts_in line.word;
+  splits = before.splits + splits_in line.word;
+  leaves = before.leaves + leaves_in line.word;
+}
+
+-- the standing behind lines
+abbrev pub advance_all : Standing → List CertLine → Standing
+advance_all before [] = before
+advance_all before (line ∷ lines) = advance_all (advance before line) lines
+
+-- each of the lines breaks no test, behind what is told before
+abbrev pub PassFrom : Verdict → Standing → List CertLine → Type 0
+PassFrom verdict before [] = Unit {0}
+PassFrom verdict before (line ∷ lines) = Passes verdict before line × PassFrom verdict (advance before line) lines
+
+-- behind so many lines, some line of the rest fails, and the lines before it pass
+pub record FailsFrom (verdict : Verdict) (before : Standing) (lines : ℕ) (rest : List ℕ) (number : ℕ) (kind : CertKind) : Type 0 where
+  pub passed : List CertLine
+  pub behind : List ℕ
+  pub joined : rest ≡ laid_out passed ++ behind
+  pub pass : PassFrom verdict before passed
+  pub fails : FailsAtOnce verdict (advance_all before passed) (lines + length passed) behind number kind
+
+-- the rest behind so many lines begins with these, which pass, and `rest_now` is left behind `lines_now`
+pub record Reads (verdict : Verdict) (before : Standing) (passed : List CertLine) (lines : ℕ) (rest : List ℕ) (lines_now : ℕ) (rest_now : List ℕ) : Type 0 where
+  pub joined : rest ≡ laid_out passed ++ rest_now
+  pub count : lines_now ≡ lines + length passed
+  pub pass : PassFrom verdict before passed
+
+-- a line has to come whose word is one of these
+pub record Awaits (verdict : Verdict) (before : Standing) (words : List Word) : Type 0 where
+  pub words_are : words_behind verdict (nat_lt before.cuts before.told) before.last ≡ words
+  pub more : before.last ≢ Some Word.End
+
+-- the numbers are those of so many pairs of an index and a value, and the rest behind them
+pub record BeginsWithPairs (count : ℕ) (es : List (ℕ × ℤ)) (numbers rest : List ℤ) : Type 0 where
+  pub laid_out : numbers ≡ flat_map (λ e. pos e.0 ∷ e.1 ∷ []) es ++ rest
+  pub many : length es ≡ count
+  pub indexes : AllBelow (2 ^ 32) es
+
+-- the numbers are those of a list, its count first, and the rest behind them
+pub record BeginsWithList (es : List (ℕ × ℤ)) (numbers rest : List ℤ) : Type 0 where
+  pub laid_out : numbers ≡ sparse_numbers es ++ rest
+  pub count : length es < 2 ^ 32
+  pub indexes : AllBelow (2 ^ 32) es
+
+-- the numbers are those of two lists
+pub record AreTwoLists (first second : List (ℕ × ℤ)) (numbers : List ℤ) : Type 0 where
+  pub laid_out : numbers ≡ sparse_numbers first ++ sparse_numbers second
+  pub first_count : length first < 2 ^ 32
+  pub first_indexes : AllBelow (2 ^ 32) first
+  pub second_count : length second < 2 ^ 32
+  pub second_indexes : AllBelow (2 ^ 32) second
