@@ -1,3 +1,4 @@
 pub mod ListLemmas
 pub mod NumberTexts
 pub mod Refusals
+pub mod SparseLists

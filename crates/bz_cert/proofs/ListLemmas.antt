@@ -1,5 +1,5 @@
 -- Lemmas on lists.
-use Rattle.std.proofs.Common.{◌≡◌, ◌∙◌, List, [], ◌∷◌, ◌++◌, ap, drop, get_or, refl, subst, sym}
+use Rattle.std.proofs.Common.{Bool, false, IsTrue, ◌↔◌, ◌≡◌, ◌∙◌, List, [], ◌∷◌, ◌++◌, ap, drop, get_or, refl, subst, sym}
 use Rattle.std.specs.List.{AllByRecursion}
 
 -- what holds of each of two lists holds of the two joined
@@ -31,3 +31,13 @@ same_until P (x ∷ xs) (y ∷ ys) us vs p q a b e =
 pub all_apart : {X : Type 0} (P : X → Type 0) (xs ys : List X) → AllByRecursion P (xs ++ ys) → AllByRecursion P xs × AllByRecursion P ys
 all_apart P [] ys h = (tt, h)
 all_apart P (x ∷ xs) ys h = let rest : AllByRecursion P xs × AllByRecursion P ys = all_apart P xs ys h.1 in ((h.0, rest.0), rest.1)
+
+-- a test of two lists one after the other, where it holds of the first
+pub also_second : {X : Type 0} (P : X → Type 0) (xs ys : List X) (b : Bool) → AllByRecursion P xs → (IsTrue b ↔ AllByRecursion P ys) →
+    (IsTrue b ↔ AllByRecursion P (xs ++ ys))
+also_second P xs ys b h k = (λ t. all_joined P xs ys h (k.0 t), λ all. k.1 (all_apart P xs ys all).1)
+
+-- a test of two lists one after the other, where it fails of the first
+pub not_first : {X : Type 0} (P : X → Type 0) (xs ys : List X) (b : Bool) → b ≡ false → (IsTrue b ↔ AllByRecursion P xs) →
+    (IsTrue b ↔ AllByRecursion P (xs ++ ys))
+not_first P xs ys b f k = (λ t. absurd (cc (t, f)), λ all. k.1 (all_apart P xs ys all).0)

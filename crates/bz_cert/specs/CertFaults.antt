@@ -143,12 +143,16 @@ abbrev pub behind_list : List ℤ → List ℤ
 behind_list [] = []
 behind_list (count ∷ ns) = drop (2 * unsigned_abs count) ns
 
+-- the counts and indexes of two sparse lists that begin the numbers
+abbrev pub lists_indexes : List ℤ → List ℤ
+lists_indexes numbers = list_indexes numbers ++ list_indexes (behind_list numbers)
+
 -- the counts and indexes among the numbers of a line: a number of cuts, the numbers of blocks and positions, and those of
 -- sparse lists
 abbrev pub indexes_of : Word → List ℤ → List ℤ
 indexes_of Word.Block numbers = take 1 numbers
 indexes_of Word.Cuts numbers = take 1 numbers
-indexes_of Word.Cut numbers = take 1 numbers ++ list_indexes (drop 4 numbers) ++ list_indexes (behind_list (drop 4 numbers))
+indexes_of Word.Cut numbers = take 1 numbers ++ lists_indexes (drop 4 numbers)
 indexes_of Word.Split numbers = take 1 numbers
 indexes_of Word.Leaf numbers = list_indexes (drop 2 numbers)
 indexes_of _ numbers = []

@@ -1,5 +1,5 @@
 -- What the parts of a certificate's text say, and how a part fails.
-use Rattle.std.specs.Prelude.{ℕ, suc, ℤ, pos, ◌≡◌, ◌≢◌, ◌+◌, ◌<◌, ◌≤◌, ◌^◌, List, [], ◌∷◌, ◌++◌, length, Option, Some, None, Result, Ok, Err, nat_lt}
+use Rattle.std.specs.Prelude.{ℕ, suc, ℤ, pos, ◌≡◌, ◌≢◌, ◌+◌, ◌<◌, ◌≤◌, ◌^◌, ◌⊎◌, List, [], ◌∷◌, ◌++◌, length, Option, Some, None, Result, Ok, Err, nat_lt}
 use Rattle.std.specs.Fmt.{signed_decimal}
 use Rattle.std.specs.List.{AllByRecursion, flat_map}
 use Rattle.bz_algebra.specs.Numbers.{IsNarrow}
@@ -100,3 +100,11 @@ pub record AreTwoLists (first second : List (ℕ × ℤ)) (numbers : List ℤ) :
   pub first_indexes : AllBelow (2 ^ 32) first
   pub second_count : length second < 2 ^ 32
   pub second_indexes : AllBelow (2 ^ 32) second
+
+-- the numbers of a line of the word are too many, then not as many as it has, then out of order
+abbrev pub NumbersFail : ℕ → Standing → Word → List ℤ → ℕ → CertKind → Type 0
+NumbersFail line before word numbers number kind =
+    (number ≡ line)
+    × (((kind ≡ CertKind.Limit) × IsTooMany before word numbers)
+    ⊎ ((kind ≡ CertKind.Line) × (IsTooMany before word numbers → ⊥) × (AreEnough word numbers → ⊥))
+    ⊎ ((kind ≡ CertKind.Order) × (IsTooMany before word numbers → ⊥) × AreEnough word numbers × (AreInOrder before word numbers → ⊥)))

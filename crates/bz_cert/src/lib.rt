@@ -2,6 +2,7 @@
 #![tactic(auto)]
 
 mod faults;
+mod lists;
 mod records;
 mod spelling;
 mod words;
