@@ -1,3 +1,4 @@
+pub mod ListIndexes
 pub mod ListLemmas
 pub mod NumberTexts
 pub mod Refusals

@@ -1,5 +1,5 @@
 -- The bytes of numbers, each behind one blank.
-use Rattle.std.proofs.Common.{◌≡◌, ◌≢◌, ◌==◌, true, false, Bool, cond, ◌||◌, not, ◌∷◌, ◌++◌, ◌∙◌, [], ℕ, suc, ◌+◌, ℤ, pos, negsuc, neg_ℤ, List, length, take, drop, get_or, arith, rules, ◌<◌, ◌≤◌, ◌^◌, append_assoc, ap, sym, refl, subst, eq-eqb, Result, Ok, Err, Some, FitsSigned, to_z, of_z, to_z-of_z, length-append}
+use Rattle.std.proofs.Common.{◌≡◌, ◌≢◌, ◌==◌, true, false, Bool, cond, ◌||◌, not, ◌∷◌, ◌++◌, ◌∙◌, [], ℕ, suc, ◌+◌, ℤ, pos, negsuc, neg_ℤ, List, length, take, drop, get_or, arith, rules, ◌<◌, ◌≤◌, ◌^◌, append_assoc, append-nil, ap, sym, refl, subst, eq-eqb, Result, Ok, Err, Some, FitsSigned, to_z, of_z, to_z-of_z, length-append}
 use Rattle.std.specs.Fmt.{decimal, signed_decimal}
 use Rattle.std.specs.Int.{w128}
 use Rattle.std.specs.Int.RustNames.{unsigned_abs}
@@ -206,3 +206,8 @@ begins_there byte (b ∷ bs) = by (b == byte) refl (begins_there byte bs)
 
 pub shorter_behind : (rest behind field after : List ℕ) → rest ≡ (32 ∷ []) ++ behind → behind ≡ field ++ after → length after < length rest
 shorter_behind rest behind field after r b = rw (r, b) (omega (arith, length-append field after))
+
+-- numbers of the same bytes are the same
+pub same_spelling : (bytes : List ℕ) (xs ys : List ℤ) → AreNumbers bytes xs → AreNumbers bytes ys → xs ≡ ys
+same_spelling bytes xs ys h k =
+    (same_numbers xs ys [] [] h.narrow k.narrow tt tt (append-nil _ ∙ sym h.spelling ∙ k.spelling ∙ sym (append-nil _))).0

@@ -1,9 +1,10 @@
 -- Where sparse lists end among numbers.
-use Rattle.std.proofs.Common.{◌≡◌, ◌==◌, false, ◌∷◌, ◌++◌, ◌∙◌, [], ℕ, suc, ◌+◌, ◌-◌, ℤ, pos, List, length, take, drop, arith, ◌<◌, ◌≤◌, ◌^◌, ap, sym, refl, append-nil, append_assoc, length-append}
+use Rattle.std.proofs.Common.{◌≡◌, ◌==◌, false, true, ◌∷◌, ◌++◌, ◌∙◌, [], ℕ, suc, ◌+◌, ◌-◌, ℤ, pos, List, length, take, drop, arith, ◌<◌, ◌≤◌, ◌^◌, ap, sym, refl, append-nil, append_assoc, length-append}
 use Rattle.std.specs.Int.RustNames.{unsigned_abs}
 use Rattle.std.specs.List.{flat_map}
 use Rattle.std.proofs.Math.Seq.{take-length}
 use Rattle.std.proofs.lemmas.Grind.{flat_map-append}
+use Rattle.std.proofs.lemmas.Bool.{eqb-true}
 use Rattle.bz_algebra.specs.Sums.{AllBelow}
 use Rattle.bz_cert.proofs.ListLemmas.{same_head, same_tail}
 use Rattle.bz_cert.specs.CertText.{sparse_numbers}
@@ -105,3 +106,7 @@ pair_pushed count es i z numbers middle rest h are below = record {
   indexes = below_push (2 ^ 32) es i z h.indexes below;
 }
 
+
+pub empty_now : {X : Type 0} (xs : List X) → (length xs == 0) ≡ true → xs ≡ []
+empty_now [] e = refl
+empty_now (x ∷ xs) e = absurd (omega (arith, eqb-true (length (x ∷ xs)) 0 e))

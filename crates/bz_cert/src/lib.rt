@@ -2,6 +2,7 @@
 #![tactic(auto)]
 
 mod faults;
+mod line_parts;
 mod lists;
 mod records;
 mod spelling;

@@ -126,6 +126,13 @@ pub(crate) fn is_sparse(entries: &[(u32, i128)]) -> bool
     true
 }
 
+/// Whether this holds of both lists.
+pub(crate) fn are_sparse(first: &[(u32, i128)], second: &[(u32, i128)]) -> bool
+    ensures { IsTrue result ↔ (IsSparse first.now × IsSparse second.now) }
+{
+    is_sparse(first) && is_sparse(second)
+}
+
 /// The pair of an index and a number in front, and the numbers behind them.
 fn take_pair(numbers: &[i128]) -> Option<(u32, i128, &[i128])>
     ensures pair { IfSome result (λ r. numbers.now ≡ pos r.0 ∷ r.1 ∷ r.2.now) }
