@@ -1,3 +1,4 @@
+pub mod Failing
 pub mod ListIndexes
 pub mod ListLemmas
 pub mod NumberTexts

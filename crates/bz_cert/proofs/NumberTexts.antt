@@ -3,7 +3,7 @@ use Rattle.std.proofs.Common.{◌≡◌, ◌≢◌, ◌==◌, true, false, Bool,
 use Rattle.std.specs.Fmt.{decimal, signed_decimal}
 use Rattle.std.specs.Int.{w128}
 use Rattle.std.specs.Int.RustNames.{unsigned_abs}
-use Rattle.std.specs.List.{AllByRecursion, flat_map, position_or_len}
+use Rattle.std.specs.List.{AllByRecursion, flat_map, list_any, position_or_len}
 use Rattle.std.specs.Str.{IsUtf8, IsAscii}
 use Rattle.std.specs.Str.Parse.{AllDigits, ParsesSigned, digits_value, IsNumeral}
 use Rattle.std.proofs.lemmas.Fmt.{decimal_is_IsNumeral_wide, IsAscii-decimal_wide}
@@ -135,7 +135,7 @@ same_numbers (x ∷ xs) (y ∷ ys) r s h k a b e =
 abbrev pub NoNumbers : List ℕ → Type 0
 NoNumbers bytes = (ns : List ℤ) → AreNumbers bytes ns → ⊥
 
-begins_stops : (byte : ℕ) (bytes : List ℕ) → BeginsWith byte bytes → Stops (λ b. b ≢ byte) bytes
+pub begins_stops : (byte : ℕ) (bytes : List ℕ) → BeginsWith byte bytes → Stops (λ b. b ≢ byte) bytes
 begins_stops byte [] h = tt
 begins_stops byte (b ∷ bs) h = λ other. other h
 
@@ -211,3 +211,14 @@ shorter_behind rest behind field after r b = rw (r, b) (omega (arith, length-app
 pub same_spelling : (bytes : List ℕ) (xs ys : List ℤ) → AreNumbers bytes xs → AreNumbers bytes ys → xs ≡ ys
 same_spelling bytes xs ys h k =
     (same_numbers xs ys [] [] h.narrow k.narrow tt tt (append-nil _ ∙ sym h.spelling ∙ k.spelling ∙ sym (append-nil _))).0
+
+-- bytes among which a test finds no such byte
+pub clear_of : (byte : ℕ) (bytes : List ℕ) → list_any (λ b. b == byte) bytes ≡ false → AllByRecursion (λ b. b ≢ byte) bytes
+clear_of byte [] h = tt
+clear_of byte (b ∷ bs) h =
+    let parts : ((b == byte) ≡ false) × (list_any (λ x. x == byte) bs ≡ false) = neither (b == byte) (list_any (λ x. x == byte) bs) h in
+    (λ same. let t : (b == byte) ≡ true = eq-eqb b byte same in absurd (cc (t, parts.0)), clear_of byte bs parts.1)
+  where
+    neither : (p q : Bool) → (p || q) ≡ false → (p ≡ false) × (q ≡ false)
+    neither true q e = absurd (cc)
+    neither false q e = (refl, e)

@@ -10,7 +10,7 @@ use Rattle.bz_cert.specs.declared.faults.CertStop.{CertStop}
 use Rattle.bz_cert.specs.declared.records.Verdict.{Verdict}
 use Rattle.bz_cert.specs.declared.words.Word.{Word}
 use Rattle.bz_cert.specs.CertText.{CertLine, laid_out, spelled, sparse_numbers, word_bytes, line_bytes}
-use Rattle.bz_cert.specs.CertFaults.{AreEnough, AreInOrder, BeginsWith, FailsAtOnce, IsIndex, IsPossible, IsTooMany, Passes, Standing, blocks_in, cuts_in, splits_in, leaves_in, told_in, indexes_of, words_behind}
+use Rattle.bz_cert.specs.CertFaults.{AreEnough, AreInOrder, BeginsWith, BeginsWithLine, BreaksTree, FailsAtOnce, IsIn, IsIndex, IsPossible, IsTooMany, Passes, Standing, blocks_in, cuts_in, splits_in, leaves_in, told_in, indexes_of, words_behind}
 
 -- how a stop fails, where it is not for want of memory
 abbrev pub StopsAs : (ℕ → CertKind → Type 0) → CertStop → Type 0
@@ -108,3 +108,21 @@ NumbersFail line before word numbers number kind =
     × (((kind ≡ CertKind.Limit) × IsTooMany before word numbers)
     ⊎ ((kind ≡ CertKind.Line) × (IsTooMany before word numbers → ⊥) × (AreEnough word numbers → ⊥))
     ⊎ ((kind ≡ CertKind.Order) × (IsTooMany before word numbers → ⊥) × AreEnough word numbers × (AreInOrder before word numbers → ⊥)))
+
+-- the rest begins with a line of that word, and what stands behind the word, and from the line's end on
+pub record BeginsWithWord (rest : List ℕ) (word : Word) (behind from_feed : List ℕ) : Type 0 where
+  pub begins : BeginsWithLine rest (word_bytes word ++ behind) from_feed
+  pub apart : BeginsWith 32 behind
+
+-- the rest begins with that line, whose numbers are in their range
+pub record BeginsWithCertLine (rest : List ℕ) (line : CertLine) (from_feed : List ℕ) : Type 0 where
+  pub begins : BeginsWithLine rest (line_bytes line) from_feed
+  pub narrow : AllByRecursion IsNarrow line.numbers
+  pub indexes : AllByRecursion IsIndex (indexes_of line.word line.numbers)
+
+-- what is left of a text fails at once, wherever a line of these words has to come that breaks no tree
+abbrev pub FailsAwaiting : List Word → ℕ → List ℕ → ℕ → CertKind → Type 0
+FailsAwaiting words lines rest number kind =
+    (verdict : Verdict) (before : Standing) → Awaits verdict before words
+    → ((word : Word) → IsIn words word → BreaksTree verdict before word → ⊥)
+    → FailsAtOnce verdict before lines rest number kind

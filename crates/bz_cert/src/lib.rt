@@ -4,6 +4,7 @@
 mod faults;
 mod line_parts;
 mod lists;
+mod places;
 mod records;
 mod spelling;
 mod words;
