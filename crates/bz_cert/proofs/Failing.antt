@@ -1,15 +1,20 @@
 -- How what is left of a text fails at once, from how its first line does.
-use Rattle.std.proofs.Common.{◌≡◌, ◌≢◌, ◌∷◌, ◌++◌, ◌∙◌, [], ℕ, suc, ◌+◌, add-one, ℤ, List, Option, Some, None, Bool, true, false, cond, inl, inr, ap, sym, refl, subst, arith, ◌⊎◌, append-nil, append_assoc, codes, bytes_eq, length, ◌==◌}
+use Rattle.std.proofs.Common.{◌≡◌, ◌≢◌, ◌∷◌, ◌++◌, ◌∙◌, [], ℕ, suc, ◌+◌, add-one, ◌<◌, ◌≤◌, ℤ, pos, List, Option, Some, None, Bool, true, false, cond, inl, inr, ap, sym, refl, subst, arith, ◌⊎◌, append-nil, append_assoc, codes, bytes_eq, length, ◌==◌, Result}
 use Rattle.std.specs.List.{AllByRecursion}
 use Rattle.std.proofs.lemmas.List.{append_cancel_left}
 use Rattle.bz_algebra.specs.Numbers.{IsNarrow}
+use Rattle.bz_cut.specs.declared.Cut.{Cut}
+use Rattle.bz_tree.specs.declared.TreeNode.{TreeNode}
 use Rattle.bz_cert.specs.declared.faults.CertKind.{CertKind}
 use Rattle.bz_cert.specs.declared.records.Verdict.{Verdict}
 use Rattle.bz_cert.specs.declared.words.Word.{Word}
-use Rattle.bz_cert.specs.CertText.{CertLine, line_bytes, line_with, spelled, word_bytes}
-use Rattle.bz_cert.specs.CertFaults.{AreEnough, AreInOrder, BeginsWith, BeginsWithLine, BreaksFirst, BreaksTree, FailsAtOnce, HasWord, IsIn, IsIndex, IsLineOf, IsPossible, IsTooMany, Passes, Standing, indexes_of, tests_behind, tests_of, words_behind}
-use Rattle.bz_cert.specs.CertReading.{AreNumbers, AreNumbersOf, Awaits, BeginsWithCertLine, BeginsWithWord, NumbersFail, Only}
+use Rattle.bz_cert.specs.CertText.{CertLine, IsWritableNode, cut_line, line_bytes, line_with, node_line, sparse_numbers, spelled, word_bytes}
+use Rattle.bz_cert.specs.CertFaults.{AreEnough, AreInOrder, AreOfCut, AreOfLeaf, number_at, BeginsWith, BeginsWithLine, BreaksFirst, BreaksTree, FailsAtOnce, HasWord, IsIn, IsIndex, IsLineOf, IsPossible, IsTooMany, IsWhole, Passes, Standing, indexes_of, tests_behind, tests_of, words_behind}
+use Rattle.bz_cert.specs.CertReading.{Answers, AreNumbers, AreNumbersOf, Awaits, FailsAwaiting, StopsAs, BeginsWithCertLine, BeginsWithWord, NumbersFail, Only, tree_words}
 use Rattle.bz_cert.proofs.ListLemmas.{Stops, same_until}
+use Rattle.bz_cert.specs.declared.faults.CertStop.{CertStop}
+use Rattle.std.specs.Prelude.{IsErrAnd}
+use Rattle.bz_cert.proofs.Refusals.{handed_on}
 use Rattle.bz_cert.proofs.SparseLists.{not_empty}
 use Rattle.bz_cert.proofs.NumberTexts.{begins_stops, clear_of, same_spelling}
 
@@ -245,3 +250,74 @@ pub failing_is : (verdict : Verdict) (before : Standing) (lines : ℕ) (rest : L
     FailsAtOnce verdict before lines rest line kind → FailsAtOnce verdict before lines rest number found
 failing_is verdict before lines rest number line found kind n k h =
     subst (λ (m : ℕ). FailsAtOnce verdict before lines rest m found) (sym n) (subst (FailsAtOnce verdict before lines rest line) (sym k) h)
+
+-- the answer of a reader whose line has numbers that fail
+pub numbers_refused : {X : Type 0} (P : X → Type 0) (words : List Word) (lines : ℕ) (rest : List ℕ) (word : Word) (numbers slice : List ℤ) (from_feed : List ℕ)
+    (r : Result X CertStop) (stop : CertStop) → IsErrAnd r (λ e. e ≡ stop) →
+    StopsAs (λ number kind. (before : Standing) → NumbersFail (lines + 1) before word slice number kind) stop → slice ≡ numbers →
+    IsIn words word → BeginsWithCertLine rest (line_with word numbers) from_feed → Answers P (FailsAwaiting words lines rest) r
+numbers_refused P words lines rest word numbers slice from_feed r stop is stops same is_in begins =
+    handed_on P _ (FailsAwaiting words lines rest) r stop is stops (λ number kind h verdict before awaits fine.
+    numbers_fail verdict before words lines rest word numbers from_feed number kind awaits is_in begins (fine word is_in)
+    (subst (λ (ns : List ℤ). NumbersFail (lines + 1) before word ns number kind) same (h before)))
+
+-- the answer of a reader whose line lacks its line feed alone
+pub feed_refused : {X : Type 0} (P : X → Type 0) (words : List Word) (lines : ℕ) (rest : List ℕ) (word : Word) (numbers : List ℤ) (from_feed : List ℕ)
+    (r : Result X CertStop) (stop : CertStop) → IsErrAnd r (λ e. e ≡ stop) → StopsAs (Only (lines + 1) CertKind.End (from_feed ≡ [])) stop →
+    IsIn words word → BeginsWithCertLine rest (line_with word numbers) from_feed →
+    ((before : Standing) → IsTooMany before word numbers → ⊥) → AreEnough word numbers → ((before : Standing) → AreInOrder before word numbers) →
+    Answers P (FailsAwaiting words lines rest) r
+feed_refused P words lines rest word numbers from_feed r stop is stops is_in begins few enough order =
+    handed_on P _ (FailsAwaiting words lines rest) r stop is stops (λ number kind h verdict before awaits fine.
+    failing_is verdict before lines rest number (lines + 1) kind CertKind.End h.0 h.1
+    (lacks_feed verdict before lines rest (line_with word numbers) from_feed begins
+    (passes verdict before words rest word numbers from_feed awaits is_in begins (fine word is_in) (few before) enough (order before)) h.2))
+
+-- numbers of a count of cuts that is not too great
+pub few_cuts : (numbers : List ℤ) (count : ℕ) → numbers ≡ pos count ∷ [] → count ≤ 65535 → 65535 < number_at 0 numbers → ⊥
+few_cuts numbers count e few many = absurd (omega (arith, few, subst (λ (ns : List ℤ). 65535 < number_at 0 ns) e many))
+
+-- the numbers of a cut's line
+abbrev pub cut_numbers : (numbers : List ℤ) (cut : Cut) → numbers ≡ (cut_line cut).numbers → AreOfCut numbers
+cut_numbers numbers cut e = record {
+  block = pos cut.block;
+  p0 = cut.p0;
+  beta = cut.beta;
+  gcd = cut.gcd;
+  alpha = cut.alpha;
+  mu = cut.mu;
+  numbers_are = e;
+}
+
+-- a word of a tree's line that is not the last one
+pub node_word : (w : Word) → IsIn tree_words w → (w ≡ Word.End → ⊥) → (w ≡ Word.Split) ⊎ (w ≡ Word.Leaf)
+node_word w (inl s) other = inl s
+node_word w (inr (inl l)) other = inr l
+node_word w (inr (inr (inl e))) other = absurd (other e)
+node_word w (inr (inr (inr none))) other = absurd none
+
+pub node_fine : (verdict : Verdict) (before : Standing) (w : Word) → (w ≡ Word.Split) ⊎ (w ≡ Word.Leaf) → (IsWhole before → ⊥) →
+    BreaksTree verdict before w → ⊥
+node_fine verdict before w (inl s) part broken = part (subst (BreaksTree verdict before) s broken)
+node_fine verdict before w (inr l) part broken = part (subst (BreaksTree verdict before) l broken)
+
+pub node_few : (before : Standing) (w : Word) (numbers : List ℤ) (nodes : ℕ) → (w ≡ Word.Split) ⊎ (w ≡ Word.Leaf) → before.splits + before.leaves ≡ nodes →
+    nodes ≤ 65534 → IsTooMany before w numbers → ⊥
+node_few before w numbers nodes (inl s) e few many =
+    let m : 65535 ≤ before.splits + before.leaves = subst (λ (x : Word). IsTooMany before x numbers) s many in absurd (omega (arith, m, e, few))
+node_few before w numbers nodes (inr l) e few many =
+    let m : 65535 ≤ before.splits + before.leaves = subst (λ (x : Word). IsTooMany before x numbers) l many in absurd (omega (arith, m, e, few))
+
+-- the numbers of a node's line are as many as it has, and in order
+node_numbers : (before : Standing) (node : TreeNode) → IsWritableNode node →
+    AreEnough (node_line node).word (node_line node).numbers × AreInOrder before (node_line node).word (node_line node).numbers
+node_numbers before (TreeNode.Split position left right) h = (refl, tt)
+node_numbers before (TreeNode.Leaf leaf) h =
+    let is : AreOfLeaf (leaf.delta ∷ leaf.bound ∷ sparse_numbers leaf.lambda) =
+    record { delta = leaf.delta; bound = leaf.bound; lambda = leaf.lambda; numbers_are = refl } in
+    (is, (record { delta = leaf.delta; bound = leaf.bound; lambda = leaf.lambda; numbers_are = refl }, h.sparse))
+
+pub node_line_numbers : (before : Standing) (node : TreeNode) (line : CertLine) → node_line node ≡ line → IsWritableNode node →
+    AreEnough line.word line.numbers × AreInOrder before line.word line.numbers
+node_line_numbers before node line e h =
+    subst (λ (l : CertLine). AreEnough l.word l.numbers × AreInOrder before l.word l.numbers) e (node_numbers before node h)

@@ -26,3 +26,9 @@ pub without_memory : {X : Type 0} (P : X → Type 0) (Fails : ℕ → CertKind �
     IsErrAnd r (λ e. e ≡ CertStop.OutOfMemory) → Answers P Fails r
 without_memory P Fails (Ok x) is = absurd is
 without_memory P Fails (Err e) is = subst (StopsAs Fails) (sym is) tt
+
+-- an answer that tells more
+pub answers_also : {X : Type 0} (P Q : X → Type 0) (Lets Fails : ℕ → CertKind → Type 0) (r : Result X CertStop) → Answers P Lets r →
+    ((x : X) → P x → Q x) → ((line : ℕ) (kind : CertKind) → Lets line kind → Fails line kind) → Answers Q Fails r
+answers_also P Q Lets Fails (Ok x) h p f = p x h
+answers_also P Q Lets Fails (Err e) h p f = stops_also Lets Fails e h f

@@ -9,8 +9,8 @@ use Rattle.bz_cert.specs.declared.faults.CertKind.{CertKind}
 use Rattle.bz_cert.specs.declared.faults.CertStop.{CertStop}
 use Rattle.bz_cert.specs.declared.records.Verdict.{Verdict}
 use Rattle.bz_cert.specs.declared.words.Word.{Word}
-use Rattle.bz_cert.specs.CertText.{CertLine, laid_out, spelled, sparse_numbers, word_bytes, line_bytes}
-use Rattle.bz_cert.specs.CertFaults.{AreEnough, AreInOrder, BeginsWith, BeginsWithLine, BreaksTree, FailsAtOnce, IsIn, IsIndex, IsPossible, IsTooMany, Passes, Standing, blocks_in, cuts_in, splits_in, leaves_in, told_in, indexes_of, words_behind}
+use Rattle.bz_cert.specs.CertText.{CertLine, laid_out, line_with, spelled, sparse_numbers, word_bytes, line_bytes}
+use Rattle.bz_cert.specs.CertFaults.{AreEnough, AreInOrder, BeginsWith, BeginsWithLine, BreaksTree, FailsAtOnce, IsIn, IsIndex, IsWhole, IsPossible, IsTooMany, Passes, Standing, blocks_in, cuts_in, splits_in, leaves_in, told_in, indexes_of, words_behind}
 
 -- how a stop fails, where it is not for want of memory
 abbrev pub StopsAs : (ℕ → CertKind → Type 0) → CertStop → Type 0
@@ -125,4 +125,38 @@ abbrev pub FailsAwaiting : List Word → ℕ → List ℕ → ℕ → CertKind �
 FailsAwaiting words lines rest number kind =
     (verdict : Verdict) (before : Standing) → Awaits verdict before words
     → ((word : Word) → IsIn words word → BreaksTree verdict before word → ⊥)
+    → FailsAtOnce verdict before lines rest number kind
+
+-- the rest begins with that line and its line feed, and `rest_now` is left, one line on
+pub record ReadsLine (lines : ℕ) (rest : List ℕ) (line : CertLine) (lines_now : ℕ) (rest_now : List ℕ) : Type 0 where
+  pub begins : BeginsWithCertLine rest line (10 ∷ rest_now)
+  pub count : lines_now ≡ lines + 1
+
+-- what is left of a text fails at once, wherever the block has to come or the word that ends the blocks
+abbrev pub FailsAtBlock : Word → ℕ → ℕ → List ℕ → ℕ → CertKind → Type 0
+FailsAtBlock last block lines rest number kind =
+    (verdict : Verdict) (before : Standing) → Awaits verdict before (Word.Block ∷ last ∷ []) → suc before.blocks ≡ block
+    → ((word : Word) → IsIn (Word.Block ∷ last ∷ []) word → BreaksTree verdict before word → ⊥)
+    → FailsAtOnce verdict before lines rest number kind
+
+-- the same, where the line may break the tree
+abbrev pub FailsComing : List Word → ℕ → List ℕ → ℕ → CertKind → Type 0
+FailsComing words lines rest number kind =
+    (verdict : Verdict) (before : Standing) → Awaits verdict before words → FailsAtOnce verdict before lines rest number kind
+
+-- the words of a tree's lines, and of the line behind it
+abbrev pub tree_words : List Word
+tree_words = Word.Split ∷ Word.Leaf ∷ Word.End ∷ []
+
+-- what is left of a text fails at once, wherever a node has to come behind so many in a tree that is not whole
+abbrev pub FailsAtNode : ℕ → ℕ → List ℕ → ℕ → CertKind → Type 0
+FailsAtNode nodes lines rest number kind =
+    (verdict : Verdict) (before : Standing) → Awaits verdict before tree_words → BreaksTree verdict before Word.End
+    → (IsWhole before → ⊥) → before.splits + before.leaves ≡ nodes → FailsAtOnce verdict before lines rest number kind
+
+-- what is left of a text fails at once, wherever the last line has to come, before which another word breaks the tree
+abbrev pub FailsAtEnd : List Word → ℕ → List ℕ → ℕ → CertKind → Type 0
+FailsAtEnd words lines rest number kind =
+    (verdict : Verdict) (before : Standing) → Awaits verdict before words → IsIn words Word.End → (BreaksTree verdict before Word.End → ⊥)
+    → ((word : Word) → IsIn words word → word ≢ Word.End → BreaksTree verdict before word)
     → FailsAtOnce verdict before lines rest number kind

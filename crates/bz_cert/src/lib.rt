@@ -3,8 +3,10 @@
 
 mod faults;
 mod line_parts;
+mod line_readers;
 mod lists;
 mod places;
+mod reading;
 mod records;
 mod spelling;
 mod words;

@@ -1,5 +1,5 @@
 //! What the numbers of a line are: the parts of a certificate.
-ghost use Rattle.std.specs.Prelude.{ℕ, ℤ, List, [], ◌≡◌, ◌∷◌, ◌+◌, ◌≤◌, suc, pos, take};
+ghost use Rattle.std.specs.Prelude.{ℕ, ℤ, List, [], ◌≡◌, ◌∷◌, ◌+◌, ◌≤◌, ◌⊎◌, suc, pos, take};
 ghost use Rattle.std.specs.List.{AllByRecursion};
 ghost use Rattle.bz_cert.specs.CertFaults.{IsIndex, Standing, indexes_of};
 ghost use Rattle.bz_cert.specs.CertReading.{Answers, AreNumbersOf, NumbersFail, Only};
@@ -143,6 +143,21 @@ fn leaf_of(alloc: Global, line: u32, numbers: &[i128]) -> Result<TreeNode, CertS
         delta: *delta,
         bound: *bound,
     }))
+}
+
+/// The node of a line behind so many of the tree.
+pub(crate) fn node_of(alloc: Global, line: u32, word: Word, nodes: usize, numbers: &[i128]) -> Result<TreeNode, CertStop>
+    requires word { (word ≡ Word.Split) ⊎ (word ≡ Word.Leaf) }
+    requires indexes { AllByRecursion IsIndex (indexes_of word numbers.now) }
+    ensures { Answers (λ node. (node_line node ≡ line_with word numbers.now) × IsWritableNode node × (nodes ≤ 65534)) (λ number kind. (before : Standing) → before.splits + before.leaves ≡ nodes → NumbersFail line before word numbers.now number kind) result }
+{
+    if nodes >= MAX {
+        return Err(fault(line, CertKind::Limit));
+    }
+    match word {
+        Word::Split => split_of(line, numbers),
+        _ => leaf_of(alloc, line, numbers),
+    }
 }
 
 /// Nothing, as on the last line.

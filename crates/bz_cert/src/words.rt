@@ -1,5 +1,5 @@
 //! The words of a certificate's lines.
-ghost use Rattle.std.specs.Prelude.{◌≡◌, IfSome, IfNone};
+ghost use Rattle.std.specs.Prelude.{◌≡◌, ◌↔◌, IfSome, IfNone, IsTrue};
 ghost use Rattle.bz_cert.specs.declared.words.Word.{Word};
 ghost use Rattle.bz_cert.specs.CertText.{word_bytes};
 
@@ -19,6 +19,13 @@ pub(crate) enum Word {
 }
 
 impl Word {
+    /// Whether it is the other word.
+    pub(crate) fn is(self, other: Word) -> bool
+        ensures { IsTrue result ↔ (self ≡ other) }
+    {
+        self == other
+    }
+
     /// Its bytes.
     pub(crate) fn bytes(self) -> &'static [u8]
         ensures { result.now ≡ word_bytes self }

@@ -11,3 +11,6 @@ returns-in_err-numbers c = handed_on _ _ _ _ _ c.from_residual-in_err-numbers.en
     (λ number kind h verdict before awaits fine. failing_is _ _ _ _ _ _ _ _ h.0 h.1
     (no_numbers verdict before c.args.words.now c.args.at.lines c.args.at.rest.now _ _ _ awaits c.in_ok-word.ensures.1 c.in_ok-word.ensures.0
     (fine _ c.in_ok-word.ensures.1) h.2))
+
+pub returns-in_err-word : goal.returns-in_err-word
+returns-in_err-word c = handed_on _ _ _ _ _ c.from_residual.ensures.1 c.in_err-word.ensures (λ number kind h verdict before awaits fine. h verdict before awaits)
