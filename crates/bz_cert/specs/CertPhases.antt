@@ -1,10 +1,10 @@
 -- What the lines of blocks, of cuts and of a tree are, and how they fail.
-use Rattle.std.specs.Prelude.{ℕ, suc, ℤ, ◌≡◌, ◌≢◌, ◌+◌, ◌<◌, ◌≤◌, ◌^◌, List, [], ◌∷◌, length, map, Some, Bool}
-use Rattle.std.specs.List.{AllByRecursion}
+use Rattle.std.specs.Prelude.{ℕ, suc, ℤ, ◌≡◌, ◌≢◌, ◌+◌, ◌-◌, ◌<◌, ◌≤◌, ◌^◌, List, [], ◌∷◌, ◌++◌, length, map, Some, Bool}
+use Rattle.std.specs.List.{AllByRecursion, flat_map}
 use Rattle.bz_model.specs.declared.BlockPart.{BlockPart}
 use Rattle.bz_cut.specs.declared.Cut.{Cut}
 use Rattle.bz_tree.specs.declared.TreeNode.{TreeNode}
-use Rattle.bz_tree.specs.Trees.{Tree, IsTreeOf}
+use Rattle.bz_tree.specs.Trees.{Tree, IsTreeOf, preorder}
 use Rattle.bz_cert.specs.declared.faults.CertKind.{CertKind}
 use Rattle.bz_cert.specs.declared.records.Verdict.{Verdict}
 use Rattle.bz_cert.specs.declared.words.Word.{Word}
@@ -17,8 +17,7 @@ pub record AwaitsBlocks (verdict : Verdict) (before : Standing) (last : Word) : 
   pub awaits : Awaits verdict before (Word.Block ∷ last ∷ [])
   pub more : words_of_block verdict ≡ Word.Block ∷ last ∷ []
   pub none : before.blocks ≡ 0
-  pub fine : (word : Word) → IsIn (Word.Block ∷ last ∷ []) word → BreaksTree verdict before word → ⊥
-  pub always_fine : (behind : Standing) (word : Word) → IsIn (Word.Block ∷ last ∷ []) word → BreaksTree verdict behind word → ⊥
+  pub fine : (behind : Standing) (word : Word) → IsIn (Word.Block ∷ last ∷ []) word → BreaksTree verdict behind word → ⊥
 
 abbrev pub FailsAtBlocks : Word → ℕ → List ℕ → ℕ → CertKind → Type 0
 FailsAtBlocks last lines rest number kind =
@@ -46,6 +45,7 @@ FailsAtCuts count lines rest number kind =
 pub record ReadsCuts (count : ℕ) (cuts : List Cut) (lines : ℕ) (rest : List ℕ) (lines_now : ℕ) (rest_now : List ℕ) : Type 0 where
   pub reads : (verdict : Verdict) (before : Standing) → AwaitsCuts verdict before count →
       Reads verdict before (map cut_line cuts) lines rest lines_now rest_now
+      × Awaits verdict (advance_all before (map cut_line cuts)) tree_words
   pub many : length cuts ≡ count
   pub writable : AllByRecursion IsWritableCut cuts
 
@@ -69,3 +69,25 @@ pub record ReadsTree (nodes : List TreeNode) (lines : ℕ) (rest : List ℕ) (li
   pub writable : AllByRecursion IsWritableNode nodes
   pub tree : Tree
   pub is_tree : IsTreeOf nodes tree
+
+-- what is told where so many of so many cuts stand there
+pub record CutsTold (verdict : Verdict) (before : Standing) (count cuts : ℕ) : Type 0 where
+  pub words_are : (to_come : Bool) → words_behind verdict to_come before.last ≡ words_of_cuts to_come
+  pub more : before.last ≢ Some Word.End
+  pub told : before.told ≡ count
+  pub here : before.cuts ≡ cuts
+
+-- what is told where so many nodes stand there and so many trees are still to come
+pub record NodesTold (verdict : Verdict) (before : Standing) (trees nodes : ℕ) : Type 0 where
+  pub awaits : Awaits verdict before tree_words
+  pub here : before.splits + before.leaves ≡ nodes
+  pub to_come : trees + before.leaves ≡ suc before.splits
+
+-- so many trees behind the nodes make them one tree
+abbrev pub MakesTree : ℕ → List TreeNode → Type 0
+MakesTree count nodes = (trees : List Tree) → length trees ≡ count → (tree : Tree) × (nodes ++ flat_map preorder trees ≡ preorder tree)
+
+-- how many trees are still to come behind one more node
+abbrev pub trees_behind : TreeNode → ℕ → ℕ
+trees_behind (TreeNode.Split position left right) trees = trees + 1
+trees_behind (TreeNode.Leaf leaf) trees = trees - 1

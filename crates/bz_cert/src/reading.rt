@@ -5,7 +5,7 @@ ghost use Rattle.bz_model.specs.declared.BlockPart.{BlockPart};
 ghost use Rattle.bz_cut.specs.declared.Cut.{Cut};
 ghost use Rattle.bz_tree.specs.declared.TreeNode.{TreeNode};
 ghost use Rattle.bz_cert.specs.declared.words.Word.{Word};
-ghost use Rattle.bz_cert.specs.CertPhases.{ReadsBlocks, ReadsCuts, ReadsTree, FailsAtBlocks, FailsAtCuts, FailsAtTree};
+ghost use Rattle.bz_cert.specs.CertPhases.{ReadsBlocks, ReadsCuts, ReadsTree, FailsAtBlocks, FailsAtCuts, FailsAtTree, trees_behind as count_behind};
 ghost use Rattle.bz_cert.specs.CertReading.{Answers};
 
 use crate::faults::CertStop;
@@ -32,7 +32,7 @@ fn read_blocks<'a>(alloc: Global, at: Place<'a>, last: Word) -> Result<Blocks<'a
 {
     let mut parts = Vec::new(alloc);
     let mut behind = at;
-    'blocks: loop {
+    'lines: loop {
         match read_block(alloc, behind, last, parts.len() as u32 + 1)? {
             BlockLine::Block(part, next) => {
                 parts.push(part)?;
@@ -64,6 +64,18 @@ fn read_cuts<'a>(alloc: Global, at: Place<'a>, count: u32) -> Result<(Vec<Cut>, 
     Ok((cuts, behind))
 }
 
+/// How many trees are still to come behind one more node.
+fn trees_behind(node: &TreeNode, trees: u32) -> u32
+    requires some { 0 < trees }
+    requires few { trees ≤ 65536 }
+    ensures { result ≡ count_behind node.now trees }
+{
+    match node {
+        TreeNode::Split { .. } => trees + 1,
+        TreeNode::Leaf(_) => trees - 1,
+    }
+}
+
 /// The nodes of a tree, up to its last leaf.
 fn read_tree<'a>(alloc: Global, at: Place<'a>) -> Result<(Vec<TreeNode>, Place<'a>), CertStop>
     ensures { Answers (λ r. ReadsTree r.0.items at.entry.lines at.entry.rest.now r.1.lines r.1.rest.now) (FailsAtTree at.entry.lines at.entry.rest.now) result }
@@ -73,10 +85,7 @@ fn read_tree<'a>(alloc: Global, at: Place<'a>) -> Result<(Vec<TreeNode>, Place<'
     let mut trees: u32 = 1;
     'nodes: while trees > 0 {
         let (node, next) = read_node(alloc, behind, nodes.len())?;
-        trees = match node {
-            TreeNode::Split { .. } => trees + 1,
-            TreeNode::Leaf(_) => trees - 1,
-        };
+        trees = trees_behind(&node, trees);
         nodes.push(node)?;
         behind = next;
     }
