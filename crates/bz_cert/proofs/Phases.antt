@@ -114,3 +114,6 @@ cuts_keep [] before = (refl, refl)
 cuts_keep (cut ∷ cuts) before =
     let later = cuts_keep cuts (advance before (cut_line cut)) in
     (later.0 ∙ add-zero before.splits, later.1 ∙ add-zero before.leaves)
+
+pub reads_none : (verdict : Verdict) (before : Standing) (n : ℕ) (r : List ℕ) → Reads verdict before [] n r n r
+reads_none verdict before n r = record { joined = refl; count = sym (add-zero n); pass = tt }

@@ -14,7 +14,7 @@ use Rattle.bz_cert.specs.CertFaults.{AreOfCut, AreOfLeaf, BreaksTree, IsIn, IsWh
 use Rattle.bz_cert.specs.CertReading.{Awaits, Reads, ReadsLine, advance, advance_all, tree_words}
 use Rattle.bz_cert.specs.CertPhases.{AwaitsBlocks, AwaitsCuts, AwaitsTree, CutsTold, MakesTree, NodesTold, trees_behind}
 use Rattle.bz_cert.proofs.Failing.{cut_numbers, passes}
-use Rattle.bz_cert.proofs.Phases.{advance_append, block_lines_push, map-append, reads_line, reads_on}
+use Rattle.bz_cert.proofs.Phases.{advance_append, block_lines_push, map-append, reads_line, reads_none, reads_on}
 
 -- what holds of the standing behind lines and one more
 one_more : (P : Standing → Type 0) (before : Standing) (ls : List CertLine) (line : CertLine) → P (advance (advance_all before ls) line) →
@@ -56,9 +56,9 @@ awaits_cut verdict before count cuts told few =
     record { words_are = told.words_are _ ∙ ap words_of_cuts (lt-ltb _ _ lt); more = told.more }
 
 -- behind the last cut a tree has to come
-pub awaits_tree : (verdict : Verdict) (before : Standing) (count : ℕ) → CutsTold verdict before count count → Awaits verdict before tree_words
-awaits_tree verdict before count told =
-    let ge : before.told ≤ before.cuts = omega (arith, told.told, told.here) in
+pub awaits_tree : (verdict : Verdict) (before : Standing) (count cuts : ℕ) → CutsTold verdict before count cuts → cuts ≡ count → Awaits verdict before tree_words
+awaits_tree verdict before count cuts told all =
+    let ge : before.told ≤ before.cuts = omega (arith, told.told, told.here, all) in
     record { words_are = told.words_are _ ∙ ap words_of_cuts (le-ltb _ _ ge); more = told.more }
 
 pub cuts_step : (verdict : Verdict) (before : Standing) (cuts : List Cut) (cut : Cut) (count n0 : ℕ) (r0 : List ℕ) (n : ℕ) (r : List ℕ) (n1 : ℕ) (r1 : List ℕ) →
@@ -154,3 +154,19 @@ makes_step trees items (TreeNode.Leaf leaf) some h ts many =
 pub cut_fine : (verdict : Verdict) (before : Standing) (word : Word) → IsIn (Word.Cut ∷ []) word → BreaksTree verdict before word → ⊥
 cut_fine verdict before word (inl same) broken = subst (BreaksTree verdict before) same broken
 cut_fine verdict before word (inr none) broken = none
+
+-- where no tree is still to come, the tree is whole
+pub whole_now : (verdict : Verdict) (before : Standing) (trees nodes : ℕ) → NodesTold verdict before trees nodes → trees ≡ 0 → before.leaves ≡ suc before.splits
+whole_now verdict before trees nodes told done = omega (arith, told.to_come, done)
+
+-- one more node gives at most one more tree
+pub trees_grow : (node : TreeNode) (trees : ℕ) → trees_behind node trees ≤ trees + 1
+trees_grow (TreeNode.Split position left right) trees = omega arith
+trees_grow (TreeNode.Leaf leaf) trees = omega arith
+
+-- before the first node
+pub tree_start : (verdict : Verdict) (before : Standing) (items : List TreeNode) (n : ℕ) (r : List ℕ) → items ≡ [] → AwaitsTree verdict before →
+    Reads verdict before (map node_line items) n r n r × NodesTold verdict (advance_all before (map node_line items)) 1 (length items)
+tree_start verdict before items n r none a =
+    subst (λ (ns : List TreeNode). Reads verdict before (map node_line ns) n r n r × NodesTold verdict (advance_all before (map node_line ns)) 1 (length ns)) (sym none)
+    (reads_none verdict before n r, record { awaits = a.awaits; here = omega (arith, a.splits, a.leaves); to_come = omega (arith, a.splits, a.leaves) })

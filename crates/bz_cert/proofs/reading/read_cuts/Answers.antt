@@ -31,7 +31,7 @@ returns c =
     let all : length c.cuts.cuts.items ≡ c.args.count = search rules in
     record {
       reads = λ verdict before a. let inv = c.cuts.invariant.reads verdict before a in
-          (inv.0, awaits_tree verdict _ c.args.count (subst (λ (k : ℕ). CutsTold verdict (advance_all before _) c.args.count k) all inv.1));
+          (inv.0, awaits_tree verdict _ c.args.count _ inv.1 all);
       many = all;
       writable = c.cuts.invariant.writable;
     }
