@@ -1,4 +1,6 @@
+pub mod Bounds
 pub mod Failing
+pub mod Heads
 pub mod ListIndexes
 pub mod ListLemmas
 pub mod NumberTexts

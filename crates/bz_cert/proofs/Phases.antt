@@ -117,3 +117,9 @@ cuts_keep (cut ∷ cuts) before =
 
 pub reads_none : (verdict : Verdict) (before : Standing) (n : ℕ) (r : List ℕ) → Reads verdict before [] n r n r
 reads_none verdict before n r = record { joined = refl; count = sym (add-zero n); pass = tt }
+
+-- the same line and kind
+pub failing_from : (verdict : Verdict) (before : Standing) (n : ℕ) (r : List ℕ) (number line : ℕ) (found kind : CertKind) → number ≡ line → found ≡ kind →
+    FailsFrom verdict before n r line kind → FailsFrom verdict before n r number found
+failing_from verdict before n r number line found kind e k h =
+    subst (λ (m : ℕ). FailsFrom verdict before n r m found) (sym e) (subst (FailsFrom verdict before n r line) (sym k) h)

@@ -17,7 +17,7 @@ use Rattle.bz_cert.proofs.Failing.{cut_numbers, passes}
 use Rattle.bz_cert.proofs.Phases.{advance_append, block_lines_push, map-append, reads_line, reads_none, reads_on}
 
 -- what holds of the standing behind lines and one more
-one_more : (P : Standing → Type 0) (before : Standing) (ls : List CertLine) (line : CertLine) → P (advance (advance_all before ls) line) →
+pub one_more : (P : Standing → Type 0) (before : Standing) (ls : List CertLine) (line : CertLine) → P (advance (advance_all before ls) line) →
     P (advance_all before (ls ++ line ∷ []))
 one_more P before ls line h = subst P (sym (advance_append before ls (line ∷ []))) h
 

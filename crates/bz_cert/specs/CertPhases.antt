@@ -1,16 +1,18 @@
 -- What the lines of blocks, of cuts and of a tree are, and how they fail.
-use Rattle.std.specs.Prelude.{ℕ, suc, ℤ, ◌≡◌, ◌≢◌, ◌+◌, ◌-◌, ◌<◌, ◌≤◌, ◌^◌, List, [], ◌∷◌, ◌++◌, length, map, Some, Bool}
+use Rattle.std.specs.Prelude.{ℕ, suc, ℤ, ◌≡◌, ◌≢◌, ◌+◌, ◌-◌, ◌<◌, ◌≤◌, ◌^◌, List, [], ◌∷◌, ◌++◌, length, map, None, Some, Bool}
 use Rattle.std.specs.List.{AllByRecursion, flat_map}
 use Rattle.bz_model.specs.declared.BlockPart.{BlockPart}
 use Rattle.bz_cut.specs.declared.Cut.{Cut}
 use Rattle.bz_tree.specs.declared.TreeNode.{TreeNode}
 use Rattle.bz_tree.specs.Trees.{Tree, IsTreeOf, preorder}
 use Rattle.bz_cert.specs.declared.faults.CertKind.{CertKind}
+use Rattle.bz_cert.specs.declared.records.Certificate.{Certificate}
 use Rattle.bz_cert.specs.declared.records.Verdict.{Verdict}
+use Rattle.bz_cert.specs.Shapes.{IsShaped}
 use Rattle.bz_cert.specs.declared.words.Word.{Word}
-use Rattle.bz_cert.specs.CertText.{IsWritableCut, IsWritableNode, block_lines, cut_line, line_with, node_line}
-use Rattle.bz_cert.specs.CertFaults.{BreaksTree, IsIn, Standing, words_behind, words_of_block, words_of_cuts}
-use Rattle.bz_cert.specs.CertReading.{Awaits, BeginsWithCertLine, FailsFrom, Reads, advance_all, tree_words}
+use Rattle.bz_cert.specs.CertText.{CertLine, IsWritable, IsWritableCut, IsWritableNode, block_lines, bound_lines, cert_lines, cut_line, laid_out, line_with, node_line}
+use Rattle.bz_cert.specs.CertFaults.{BreaksTree, IsIn, IsWhole, Standing, words_behind, words_of_block, words_of_cuts}
+use Rattle.bz_cert.specs.CertReading.{Awaits, BeginsWithCertLine, FailsFrom, PassFrom, Reads, advance_all, tree_words}
 
 -- a block has to come, or a line of the other word, and no block was there
 pub record AwaitsBlocks (verdict : Verdict) (before : Standing) (last : Word) : Type 0 where
@@ -91,3 +93,48 @@ MakesTree count nodes = (trees : List Tree) → length trees ≡ count → (tree
 abbrev pub trees_behind : TreeNode → ℕ → ℕ
 trees_behind (TreeNode.Split position left right) trees = trees + 1
 trees_behind (TreeNode.Leaf leaf) trees = trees - 1
+
+-- the standing before the first line behind the verdict's
+abbrev pub start : Standing
+start = record { last = None; blocks = 0; told = 0; cuts = 0; splits = 0; leaves = 0 }
+
+-- blocks, and behind them that line
+pub record ReadsBlocksTo (line : CertLine) (parts : List BlockPart) (lines : ℕ) (rest : List ℕ) (lines_now : ℕ) (rest_now : List ℕ) : Type 0 where
+  pub reads : (verdict : Verdict) (before : Standing) → AwaitsBlocks verdict before line.word →
+      Reads verdict before (block_lines 1 parts ++ line ∷ []) lines rest lines_now rest_now
+  pub few : length parts < 2 ^ 32
+
+-- the number of the cuts has to come, and a tree behind them
+pub record AwaitsBound (verdict : Verdict) (before : Standing) : Type 0 where
+  pub awaits : Awaits verdict before (Word.Cuts ∷ [])
+  pub told : before.told ≡ 0
+  pub cuts : before.cuts ≡ 0
+  pub splits : before.splits ≡ 0
+  pub leaves : before.leaves ≡ 0
+  pub ends : (behind : Standing) → (IsWhole behind → ⊥) → BreaksTree verdict behind Word.End
+  pub stays : (behind : Standing) → IsWhole behind → BreaksTree verdict behind Word.End → ⊥
+
+abbrev pub FailsAtBound : ℕ → List ℕ → ℕ → CertKind → Type 0
+FailsAtBound lines rest number kind =
+    (verdict : Verdict) (before : Standing) → AwaitsBound verdict before → FailsFrom verdict before lines rest number kind
+
+-- the cuts and the tree, up to the end of the text
+pub record ReadsBound (cuts : List Cut) (tree : List TreeNode) (lines : ℕ) (rest : List ℕ) : Type 0 where
+  pub passes : (verdict : Verdict) (before : Standing) → AwaitsBound verdict before → PassFrom verdict before (bound_lines cuts tree)
+  pub joined : rest ≡ laid_out (bound_lines cuts tree)
+  pub few_cuts : length cuts ≤ 65535
+  pub writable_cuts : AllByRecursion IsWritableCut cuts
+  pub few_nodes : length tree ≤ 65535
+  pub writable_nodes : AllByRecursion IsWritableNode tree
+  pub whole : Tree
+  pub is_tree : IsTreeOf tree whole
+
+-- the certificate of a verdict, whose lines are the text
+pub record ReadsBody (verdict : Verdict) (text : List ℕ) (c : Certificate) : Type 0 where
+  pub verdict_is : c.verdict ≡ verdict
+  pub shaped : IsShaped c
+  pub writable : IsWritable c
+  pub joined : text ≡ laid_out (cert_lines c)
+
+abbrev pub FailsBody : Verdict → ℕ → List ℕ → ℕ → CertKind → Type 0
+FailsBody verdict lines rest number kind = FailsFrom verdict start lines rest number kind

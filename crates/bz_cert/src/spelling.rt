@@ -1,5 +1,5 @@
 //! Bytes up to a place, and numbers behind blanks.
-ghost use Rattle.std.specs.Prelude.{ℕ, ℤ, ◌≡◌, ◌≢◌, ◌==◌, IfNone, IfSome, List, Some, ◌++◌, ◌<◌, ◌≤◌, length};
+ghost use Rattle.std.specs.Prelude.{ℕ, ℤ, ◌≡◌, ◌≢◌, ◌==◌, IfNone, IfSome, IsTrue, ◌↔◌, List, Some, ◌++◌, ◌<◌, ◌≤◌, length};
 ghost use Rattle.std.specs.List.{AllByRecursion, position_or_len};
 ghost use Rattle.bz_cert.specs.declared.faults.CertKind.{CertKind};
 ghost use Rattle.bz_cert.specs.CertFaults.{BeginsWith};
@@ -30,6 +30,13 @@ pub(crate) fn cut_at(text: &[u8], byte: u8) -> (&[u8], &[u8])
     ensures from_there { BeginsWith byte result.1.now }
 {
     text.split_at(place_of(text, byte))
+}
+
+/// Whether they are the same bytes.
+pub(crate) fn same_bytes(first: &[u8], second: &[u8]) -> bool
+    ensures { IsTrue result ↔ (first.now ≡ second.now) }
+{
+    first == second
 }
 
 /// What stands behind the front, where the text begins with it.

@@ -6,7 +6,7 @@ use Rattle.bz_cert.specs.CertFaults.{Standing}
 use Rattle.bz_cert.specs.CertPhases.{AwaitsBlocks}
 use Rattle.bz_cert.specs.CertReading.{Awaits, Reads, advance_all}
 use Rattle.bz_cert.specs.CertText.{block_lines}
-use Rattle.bz_cert.proofs.reading.read_blocks.Given as goal
+use Rattle.bz_cert.proofs.line_lists.read_blocks.Given as goal
 
 abbrev pub invariant-lines : goal.invariant-lines
 invariant-lines l = record {

@@ -6,7 +6,7 @@ use Rattle.bz_cert.proofs.ListLemmas.{all_joined}
 use Rattle.bz_cert.proofs.Phases.{fails_later, fails_now}
 use Rattle.bz_cert.proofs.Refusals.{handed_on}
 use Rattle.bz_cert.proofs.Steps.{awaits_cut, awaits_tree, cut_fine, cuts_step}
-use Rattle.bz_cert.proofs.reading.read_cuts.Goals as goal
+use Rattle.bz_cert.proofs.line_lists.read_cuts.Goals as goal
 
 pub cuts-preserved : goal.cuts-preserved
 cuts-preserved c =

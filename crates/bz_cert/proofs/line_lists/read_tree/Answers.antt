@@ -9,7 +9,7 @@ use Rattle.bz_cert.proofs.ListLemmas.{all_joined}
 use Rattle.bz_cert.proofs.Phases.{fails_later, fails_now}
 use Rattle.bz_cert.proofs.Refusals.{handed_on}
 use Rattle.bz_cert.proofs.Steps.{makes_one, makes_step, not_whole, tree_step, tree_start, trees_grow, whole_now}
-use Rattle.bz_cert.proofs.reading.read_tree.Goals as goal
+use Rattle.bz_cert.proofs.line_lists.read_tree.Goals as goal
 
 pub nodes-init : goal.nodes-init
 nodes-init c = record {

@@ -7,7 +7,7 @@ use Rattle.bz_cert.specs.CertFaults.{Standing, words_behind, words_of_cuts}
 use Rattle.bz_cert.specs.CertPhases.{AwaitsCuts, CutsTold}
 use Rattle.bz_cert.specs.CertReading.{Reads, advance_all}
 use Rattle.bz_cert.specs.CertText.{IsWritableCut, cut_line}
-use Rattle.bz_cert.proofs.reading.read_cuts.Given as goal
+use Rattle.bz_cert.proofs.line_lists.read_cuts.Given as goal
 
 abbrev pub invariant-cuts : goal.invariant-cuts
 invariant-cuts l = record {

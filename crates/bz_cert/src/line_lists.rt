@@ -1,4 +1,4 @@
-//! The reader of a certificate's text.
+//! Lines of blocks, of cuts and of a tree.
 ghost use Rattle.std.specs.Prelude.{ℕ, ℤ, List, [], ◌≡◌, ◌∷◌, ◌++◌, ◌+◌, ◌<◌, ◌≤◌, ◌^◌, pos, map, length};
 ghost use Rattle.std.specs.List.{AllByRecursion};
 ghost use Rattle.bz_model.specs.declared.BlockPart.{BlockPart};
@@ -9,7 +9,7 @@ ghost use Rattle.bz_cert.specs.CertPhases.{ReadsBlocks, ReadsCuts, ReadsTree, Fa
 ghost use Rattle.bz_cert.specs.CertReading.{Answers};
 
 use crate::faults::CertStop;
-use crate::line_readers::{BlockLine, read_block, read_count, read_cut, read_end, read_eta, read_master, read_node};
+use crate::line_readers::{BlockLine, read_block, read_cut, read_node};
 use crate::places::Place;
 use crate::words::Word;
 use bz_cut::Cut;
@@ -19,6 +19,7 @@ use std::alloc::Global;
 
 /// Lines of blocks: their parts, the place behind them, the numbers of the line that ends them, and what is left from
 /// that line's end on.
+#[derive(Drop)]
 pub(crate) struct Blocks<'a> {
     pub parts: Vec<BlockPart>,
     pub behind: Place<'a>,
@@ -27,7 +28,7 @@ pub(crate) struct Blocks<'a> {
 }
 
 /// The blocks, up to the line of the word that ends them.
-fn read_blocks<'a>(alloc: Global, at: Place<'a>, last: Word) -> Result<Blocks<'a>, CertStop>
+pub(crate) fn read_blocks<'a>(alloc: Global, at: Place<'a>, last: Word) -> Result<Blocks<'a>, CertStop>
     ensures { Answers (λ r. ReadsBlocks last r.parts.items at.entry.lines at.entry.rest.now r.behind.lines r.behind.rest.now r.last.items r.from_feed.now) (FailsAtBlocks last at.entry.lines at.entry.rest.now) result }
 {
     let mut parts = Vec::new(alloc);
@@ -51,7 +52,7 @@ fn read_blocks<'a>(alloc: Global, at: Place<'a>, last: Word) -> Result<Blocks<'a
 }
 
 /// So many cuts.
-fn read_cuts<'a>(alloc: Global, at: Place<'a>, count: u32) -> Result<(Vec<Cut>, Place<'a>), CertStop>
+pub(crate) fn read_cuts<'a>(alloc: Global, at: Place<'a>, count: u32) -> Result<(Vec<Cut>, Place<'a>), CertStop>
     ensures { Answers (λ r. ReadsCuts count r.0.items at.entry.lines at.entry.rest.now r.1.lines r.1.rest.now) (FailsAtCuts count at.entry.lines at.entry.rest.now) result }
 {
     let mut cuts = Vec::new(alloc);
@@ -77,7 +78,7 @@ fn trees_behind(node: &TreeNode, trees: u32) -> u32
 }
 
 /// The nodes of a tree, up to its last leaf.
-fn read_tree<'a>(alloc: Global, at: Place<'a>) -> Result<(Vec<TreeNode>, Place<'a>), CertStop>
+pub(crate) fn read_tree<'a>(alloc: Global, at: Place<'a>) -> Result<(Vec<TreeNode>, Place<'a>), CertStop>
     ensures { Answers (λ r. ReadsTree r.0.items at.entry.lines at.entry.rest.now r.1.lines r.1.rest.now) (FailsAtTree at.entry.lines at.entry.rest.now) result }
 {
     let mut nodes = Vec::new(alloc);

@@ -7,7 +7,7 @@ use Rattle.bz_cert.specs.CertFaults.{Standing}
 use Rattle.bz_cert.specs.CertPhases.{AwaitsTree, MakesTree, NodesTold}
 use Rattle.bz_cert.specs.CertReading.{Reads, advance_all}
 use Rattle.bz_cert.specs.CertText.{IsWritableNode, node_line}
-use Rattle.bz_cert.proofs.reading.read_tree.Given as goal
+use Rattle.bz_cert.proofs.line_lists.read_tree.Given as goal
 
 abbrev pub invariant-nodes : goal.invariant-nodes
 invariant-nodes l = record {

@@ -7,7 +7,7 @@ use Rattle.bz_cert.specs.CertText.{line_with}
 use Rattle.bz_cert.proofs.Phases.{fails_later, fails_now}
 use Rattle.bz_cert.proofs.Refusals.{handed_on}
 use Rattle.bz_cert.proofs.Steps.{blocks_step}
-use Rattle.bz_cert.proofs.reading.read_blocks.Goals as goal
+use Rattle.bz_cert.proofs.line_lists.read_blocks.Goals as goal
 
 pub lines-preserved : goal.lines-preserved
 lines-preserved c =
