@@ -1,3 +1,4 @@
+pub mod Bodies
 pub mod Bounds
 pub mod Failing
 pub mod Heads
@@ -7,4 +8,5 @@ pub mod NumberTexts
 pub mod Phases
 pub mod Refusals
 pub mod SparseLists
+pub mod Standings
 pub mod Steps

@@ -120,8 +120,8 @@ FailsAtBound lines rest number kind =
 
 -- the cuts and the tree, up to the end of the text
 pub record ReadsBound (cuts : List Cut) (tree : List TreeNode) (lines : ℕ) (rest : List ℕ) : Type 0 where
-  pub passes : (verdict : Verdict) (before : Standing) → AwaitsBound verdict before → PassFrom verdict before (bound_lines cuts tree)
-  pub joined : rest ≡ laid_out (bound_lines cuts tree)
+  pub reads : (verdict : Verdict) (before : Standing) → AwaitsBound verdict before →
+      (rest ≡ laid_out (bound_lines cuts tree)) × PassFrom verdict before (bound_lines cuts tree)
   pub few_cuts : length cuts ≤ 65535
   pub writable_cuts : AllByRecursion IsWritableCut cuts
   pub few_nodes : length tree ≤ 65535

@@ -15,4 +15,5 @@ mod spelling;
 mod words;
 
 pub use faults::{CertFault, CertKind, CertStop};
+pub use reader::read_cert;
 pub use records::{Certificate, Verdict};

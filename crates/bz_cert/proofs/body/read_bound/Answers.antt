@@ -1,6 +1,7 @@
 use Rattle.std.proofs.Common.{◌≡◌, ◌∷◌, ◌++◌, ◌∙◌, [], ℕ, List, length, map, rules, arith, ap, inl, inr, refl, subst, sym, append-nil}
 use Rattle.bz_cert.specs.declared.faults.CertKind.{CertKind}
 use Rattle.bz_cert.specs.declared.words.Word.{Word}
+use Rattle.bz_cert.specs.CertText.{bound_lines, laid_out}
 use Rattle.bz_cert.proofs.Bounds.{awaits_cuts, awaits_first_node, bound_ends, count_fine, count_read, cuts_read, end_read, others_break, tree_read}
 use Rattle.bz_cert.proofs.Phases.{fails_later, fails_now}
 use Rattle.bz_cert.proofs.Refusals.{handed_on}
@@ -35,7 +36,20 @@ returns-in_err-finish c = handed_on _ _ _ _ _ c.from_residual-in_err-finish.ensu
     let r2 = cuts_read verdict before _ _ _ _ _ _ _ _ a r1 c.in_ok-cuts.ensures in
     let r3 = tree_read verdict before _ _ _ _ _ _ _ _ _ _ _ a r2 c.in_ok-cuts.ensures c.in_ok-tree.ensures in
     let r4 = end_read verdict before _ _ _ _ _ _ _ _ _ a r3 c.in_ok-cuts.ensures.many c.in_ok-end.ensures in
-    fails_later verdict before _ _ _ _ _ number kind r4 (fails_now verdict _ _ _ number kind (h verdict _ (bound_ends before _ _))))
+    fails_later verdict before _ _ _ _ _ number kind r4 (fails_now verdict _ _ _ number kind (h verdict _ (bound_ends before c.in_ok-cuts.cuts.items c.in_ok-tree.tree.items))))
 
 pub returns : goal.returns
-returns c = ?
+returns c = record {
+  reads = λ verdict before a.
+      let r1 = count_read verdict before _ _ _ _ _ a c.in_ok-count.ensures.0 c.in_ok-count.ensures.1 in
+      let r2 = cuts_read verdict before _ _ _ _ _ _ _ _ a r1 c.in_ok-cuts.ensures in
+      let r3 = tree_read verdict before _ _ _ _ _ _ _ _ _ _ _ a r2 c.in_ok-cuts.ensures c.in_ok-tree.ensures in
+      let r4 = end_read verdict before _ _ _ _ _ _ _ _ _ a r3 c.in_ok-cuts.ensures.many c.in_ok-end.ensures in
+      (r4.joined ∙ ap (λ t. laid_out (bound_lines c.in_ok-cuts.cuts.items c.in_ok-tree.tree.items) ++ t) c.in_ok-finish.ensures ∙ append-nil _, r4.pass);
+  few_cuts = omega (arith, c.in_ok-cuts.ensures.many, c.in_ok-count.ensures.1);
+  writable_cuts = c.in_ok-cuts.ensures.writable;
+  few_nodes = c.in_ok-tree.ensures.few;
+  writable_nodes = c.in_ok-tree.ensures.writable;
+  whole = c.in_ok-tree.ensures.tree;
+  is_tree = c.in_ok-tree.ensures.is_tree;
+}
