@@ -1,1 +1,6 @@
+pub mod BlockLines
+pub mod CertFaults
+pub mod CertPhases
+pub mod CertReading
+pub mod CertText
 pub mod Shapes

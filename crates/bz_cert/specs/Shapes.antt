@@ -1,9 +1,7 @@
 -- What a certificate has by its verdict: a record with other lists than its verdict writes is no certificate.
-use Rattle.std.specs.Prelude.{ℕ, ℤ, pos, ◌≡◌, ◌≤◌, List, [], length, Option, Some, None}
+use Rattle.std.specs.Prelude.{ℤ, pos, ◌≡◌, ◌≤◌, List, [], length, Option, Some, None}
 use Rattle.std.specs.List.{AllByRecursion}
 use Rattle.bz_algebra.specs.Numbers.{IsNarrow}
-use Rattle.bz_model.specs.declared.BlockPart.{BlockPart}
-use Rattle.bz_model.specs.declared.Master.{Master}
 use Rattle.bz_model.specs.declared.Parts.{Parts}
 use Rattle.bz_cut.specs.declared.Cut.{Cut}
 use Rattle.bz_tree.specs.declared.Leaf.{Leaf}

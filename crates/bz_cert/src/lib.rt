@@ -1,6 +1,21 @@
 //! Certificates and their texts.
 #![tactic(auto)]
 
+mod body;
+mod faults;
+mod head;
+mod line_lists;
+mod line_parts;
+mod line_readers;
+mod lists;
+mod places;
+mod reader;
 mod records;
+mod spelling;
+#[cfg(test)]
+mod tests;
+mod words;
 
+pub use faults::{CertFault, CertKind, CertStop};
+pub use reader::read_cert;
 pub use records::{Certificate, Verdict};

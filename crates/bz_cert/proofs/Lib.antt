@@ -1,0 +1,12 @@
+pub mod Bodies
+pub mod Bounds
+pub mod Failing
+pub mod Heads
+pub mod ListIndexes
+pub mod ListLemmas
+pub mod NumberTexts
+pub mod Phases
+pub mod Refusals
+pub mod SparseLists
+pub mod Standings
+pub mod Steps

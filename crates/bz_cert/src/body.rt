@@ -1,0 +1,151 @@
+//! What stands behind the two first lines of a certificate's text, by the verdict.
+ghost use Rattle.std.specs.Prelude.{ℕ, ℤ, List, [], ◌≡◌, ◌∷◌, ◌++◌, ◌+◌, ◌<◌, ◌≤◌, ◌^◌, pos, map, length, Some};
+ghost use Rattle.bz_cert.specs.declared.records.Verdict.{Verdict};
+ghost use Rattle.bz_cert.specs.declared.words.Word.{Word};
+ghost use Rattle.bz_cert.specs.CertFaults.{FailsAtOnce, Standing};
+ghost use Rattle.bz_cert.specs.CertPhases.{AwaitsBlocks, AwaitsBound, FailsAtBlocks, FailsAtBound, FailsBody, ReadsBlocksTo, ReadsBody, ReadsBound};
+ghost use Rattle.bz_cert.specs.CertReading.{Answers};
+ghost use Rattle.bz_cert.specs.CertText.{line_with};
+
+use crate::faults::{CertKind, CertStop, fault};
+use crate::line_lists::{read_blocks, read_cuts, read_tree};
+use crate::line_parts::value_of;
+use crate::line_readers::{read_count, read_end, read_eta, read_master};
+use crate::places::{Place, next_place};
+use crate::records::{Certificate, Verdict};
+use crate::words::Word;
+use bz_cut::Cut;
+use bz_model::{BlockPart, Master, Parts};
+use bz_num::Items;
+use bz_tree::TreeNode;
+use std::alloc::Global;
+
+/// The text ends here.
+fn finish(at: Place<'_>) -> Result<(), CertStop>
+    ensures { Answers (λ nothing. at.entry.rest.now ≡ []) (λ number kind. (verdict : Verdict) (before : Standing) → before.last ≡ Some Word.End → FailsAtOnce verdict before at.entry.lines at.entry.rest.now number kind) result }
+{
+    if at.rest.is_empty() {
+        Ok(())
+    } else {
+        Err(fault(at.lines + 1, CertKind::End))
+    }
+}
+
+/// The blocks and the value.
+fn read_valued<'a>(
+    alloc: Global,
+    at: Place<'a>,
+) -> Result<(Vec<BlockPart>, i128, Place<'a>), CertStop>
+    ensures { Answers (λ r. ReadsBlocksTo (line_with Word.Value (r.1 ∷ [])) r.0.items at.entry.lines at.entry.rest.now r.2.lines r.2.rest.now) (FailsAtBlocks Word.Value at.entry.lines at.entry.rest.now) result }
+{
+    let blocks = read_blocks(alloc, at, Word::Value)?;
+    let value = value_of(blocks.behind.lines + 1, blocks.last.as_slice())?;
+    let behind = next_place(blocks.behind, blocks.from_feed)?;
+    Ok((blocks.parts, value, behind))
+}
+
+/// The blocks and the direction.
+fn read_directed<'a>(
+    alloc: Global,
+    at: Place<'a>,
+) -> Result<(Vec<BlockPart>, Vec<i128>, Place<'a>), CertStop>
+    ensures { Answers (λ r. ReadsBlocksTo (line_with Word.Ray r.1.items) r.0.items at.entry.lines at.entry.rest.now r.2.lines r.2.rest.now) (FailsAtBlocks Word.Ray at.entry.lines at.entry.rest.now) result }
+{
+    let blocks = read_blocks(alloc, at, Word::Ray)?;
+    let behind = next_place(blocks.behind, blocks.from_feed)?;
+    Ok((blocks.parts, blocks.last, behind))
+}
+
+/// The cuts and the tree, up to the end of the text.
+fn read_bound(alloc: Global, at: Place<'_>) -> Result<(Vec<Cut>, Vec<TreeNode>), CertStop>
+    ensures { Answers (λ r. ReadsBound r.0.items r.1.items at.entry.lines at.entry.rest.now) (FailsAtBound at.entry.lines at.entry.rest.now) result }
+{
+    let (count, behind) = read_count(alloc, at)?;
+    let (cuts, behind) = read_cuts(alloc, behind, count)?;
+    let (tree, behind) = read_tree(alloc, behind)?;
+    let end = read_end(alloc, behind, &[Word::Split, Word::Leaf, Word::End])?;
+    finish(end)?;
+    Ok((cuts, tree))
+}
+
+/// The certificate of an optimum.
+fn read_optimal(alloc: Global, at: Place<'_>) -> Result<Certificate, CertStop>
+    ensures { Answers (ReadsBody Verdict.Optimal at.entry.rest.now) (FailsBody Verdict.Optimal at.entry.lines at.entry.rest.now) result }
+{
+    let (den, x, behind) = read_master(alloc, at)?;
+    let (eta, behind) = read_eta(alloc, behind)?;
+    let (blocks, value, behind) = read_valued(alloc, behind)?;
+    let (cuts, tree) = read_bound(alloc, behind)?;
+    let master = Master {
+        den,
+        x: Items::from_vec(x),
+        eta: Items::from_vec(eta),
+    };
+    Ok(Certificate {
+        verdict: Verdict::Optimal,
+        parts: Some(Parts {
+            master,
+            blocks: Items::from_vec(blocks),
+        }),
+        value,
+        ray: Items::from_vec(Vec::new(alloc)),
+        cuts: Items::from_vec(cuts),
+        tree: Items::from_vec(tree),
+    })
+}
+
+/// The certificate of a model without feasible points.
+fn read_infeasible(alloc: Global, at: Place<'_>) -> Result<Certificate, CertStop>
+    ensures { Answers (ReadsBody Verdict.Infeasible at.entry.rest.now) (FailsBody Verdict.Infeasible at.entry.lines at.entry.rest.now) result }
+{
+    let (cuts, tree) = read_bound(alloc, at)?;
+    Ok(Certificate {
+        verdict: Verdict::Infeasible,
+        parts: None,
+        value: 0,
+        ray: Items::from_vec(Vec::new(alloc)),
+        cuts: Items::from_vec(cuts),
+        tree: Items::from_vec(tree),
+    })
+}
+
+/// The certificate of an unbounded model.
+fn read_unbounded(alloc: Global, at: Place<'_>) -> Result<Certificate, CertStop>
+    ensures { Answers (ReadsBody Verdict.Unbounded at.entry.rest.now) (FailsBody Verdict.Unbounded at.entry.lines at.entry.rest.now) result }
+{
+    let (den, x, behind) = read_master(alloc, at)?;
+    let (blocks, ray, behind) = read_directed(alloc, behind)?;
+    let end = read_end(alloc, behind, &[Word::End])?;
+    finish(end)?;
+    let master = Master {
+        den,
+        x: Items::from_vec(x),
+        eta: Items::from_vec(Vec::new(alloc)),
+    };
+    Ok(Certificate {
+        verdict: Verdict::Unbounded,
+        parts: Some(Parts {
+            master,
+            blocks: Items::from_vec(blocks),
+        }),
+        value: 0,
+        ray: Items::from_vec(ray),
+        cuts: Items::from_vec(Vec::new(alloc)),
+        tree: Items::from_vec(Vec::new(alloc)),
+    })
+}
+
+/// The certificate behind the verdict's line.
+pub(crate) fn read_body(
+    alloc: Global,
+    at: Place<'_>,
+    verdict: Verdict,
+) -> Result<Certificate, CertStop>
+    ensures { Answers (ReadsBody verdict at.entry.rest.now) (FailsBody verdict at.entry.lines at.entry.rest.now) result }
+{
+    match verdict {
+        Verdict::Optimal => read_optimal(alloc, at),
+        Verdict::Infeasible => read_infeasible(alloc, at),
+        Verdict::Unbounded => read_unbounded(alloc, at),
+    }
+}
