@@ -1,3 +1,4 @@
+pub mod ExampleOne
 pub mod Forests
 pub mod IntegerPositions
 pub mod LeafSides

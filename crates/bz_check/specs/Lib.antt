@@ -1,4 +1,5 @@
 pub mod CheckTests
+pub mod ExampleOne
 pub mod Fits
 pub mod LeafSides
 pub mod Passing

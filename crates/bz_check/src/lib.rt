@@ -11,3 +11,6 @@ mod tree_goals;
 mod tree_walk;
 
 pub use faults::CheckFault;
+
+#[cfg(test)]
+mod tree_tests;
