@@ -1,8 +1,7 @@
 -- The sides of a leaf by their numbers.
-use Rattle.std.proofs.Common.{◌≡◌, refl, sym, ◌∙◌, ap, ℕ, zero, suc, ◌+◌, ◌*◌, ◌<◌, List, [], ◌∷◌, ◌++◌, length, map, get_or, arith, ℤ, pos, negsuc, neg_ℤ, length-append}
+use Rattle.std.proofs.Common.{◌≡◌, refl, ◌∙◌, ap, ℕ, zero, suc, ◌+◌, ◌*◌, ◌<◌, List, [], ◌∷◌, ◌++◌, length, map, get_or, arith, pos, negsuc, neg_ℤ, length-append}
 use Rattle.std.proofs.lemmas.List.{length-map}
-use Rattle.std.specs.List.{AllByRecursion, enumerate_from, flat_map}
-use Rattle.bz_algebra.specs.Numbers.{IsNarrow}
+use Rattle.std.specs.List.{enumerate_from, flat_map}
 use Rattle.bz_algebra.specs.Sums.{coef}
 use Rattle.bz_model.specs.declared.Column.{Column}
 use Rattle.bz_model.specs.declared.Ineq.{Ineq}

@@ -1,5 +1,5 @@
 -- The numbers of sparse rows are narrow.
-use Rattle.std.proofs.Common.{rules, arith, to_z-of_z}
+use Rattle.std.proofs.Common.{arith, to_z-of_z}
 use Rattle.bz_check.proofs.ExampleOne.{sparse_narrow}
 use Rattle.bz_check.proofs.tree_tests.cut_of.Goals as goal
 
