@@ -1,8 +1,7 @@
 -- Trees over their boxes, one behind another: what a leaf and a split leave of them.
-use Rattle.std.proofs.Common.{◌≡◌, refl, sym, ◌∙◌, ap, subst, ℕ, zero, suc, ◌+◌, ◌⊎◌, inl, inr, List, [], ◌∷◌, ◌++◌, length, arith, ℤ, append_assoc, append-nil, length-append}
+use Rattle.std.proofs.Common.{◌≡◌, refl, sym, ◌∙◌, ap, subst, ℕ, suc, ◌+◌, ◌⊎◌, inl, inr, List, [], ◌∷◌, ◌++◌, length, arith, ℤ, append_assoc, append-nil, length-append}
 use Rattle.std.specs.List.{flat_map}
 use Rattle.bz_model.specs.declared.Model.{Model}
-use Rattle.bz_model.specs.Points.{coordinate}
 use Rattle.bz_cut.specs.declared.Cut.{Cut}
 use Rattle.bz_cut.specs.Tests.{AllHold, IsFirstFault, test}
 use Rattle.bz_cut.proofs.TestLemmas.{all_joined, fault_behind, fault_in_front}

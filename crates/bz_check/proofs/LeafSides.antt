@@ -1,8 +1,7 @@
 -- The sides of a leaf by their numbers.
-use Rattle.std.proofs.Common.{◌≡◌, refl, sym, ◌∙◌, ap, ℕ, zero, suc, ◌+◌, ◌*◌, ◌<◌, List, [], ◌∷◌, ◌++◌, length, map, get_or, arith, ℤ, pos, negsuc, neg_ℤ, length-append}
+use Rattle.std.proofs.Common.{◌≡◌, refl, ◌∙◌, ap, ℕ, zero, suc, ◌+◌, ◌*◌, ◌<◌, List, [], ◌∷◌, ◌++◌, length, map, get_or, arith, pos, negsuc, neg_ℤ, length-append}
 use Rattle.std.proofs.lemmas.List.{length-map}
-use Rattle.std.specs.List.{AllByRecursion, enumerate_from, flat_map}
-use Rattle.bz_algebra.specs.Numbers.{IsNarrow}
+use Rattle.std.specs.List.{enumerate_from, flat_map}
 use Rattle.bz_algebra.specs.Sums.{coef}
 use Rattle.bz_model.specs.declared.Column.{Column}
 use Rattle.bz_model.specs.declared.Ineq.{Ineq}
@@ -151,9 +150,3 @@ box_same part box j (e ∷ es) = ap (λ (is : List Ineq). sides_of_box part box 
 
 pub sides_same : (m : Model) (part : List ℕ) (box : Box) (cuts : List Cut) → sides_among (inequalities_of m part 0) (positions_of m part) box cuts ≡ sides_of m part box cuts
 sides_same m part box cuts = ap (λ (is : List Ineq). (map side_of_master (inequalities_of m part 0) ++ is) ++ map side_of_cut cuts) (box_same part box 0 (integers_of m))
-
--- a number of a list without wide ones
-pub narrow_at : (xs : List ℤ) (k : ℕ) → AllByRecursion IsNarrow xs → IsNarrow (coordinate xs k)
-narrow_at [] k h = omega arith
-narrow_at (x ∷ xs) zero h = h.0
-narrow_at (x ∷ xs) (suc k) h = narrow_at xs k h.1

@@ -5,6 +5,7 @@ pub mod AllTestsRoots
 pub mod AllTestsTrees
 pub mod BetweenTests
 pub mod CostSums
+pub mod ExampleOne
 pub mod Forests
 pub mod FoundSums
 pub mod IntegerPositions

@@ -1,5 +1,5 @@
 //! Whether a tree of branch and bound holds over the box of the whole model.
-ghost use Rattle.std.specs.Prelude.{◌≡◌, ◌↔◌, ◌<◌, ◌==◌, ◌+ℤ◌, ◌∷◌, [], ℕ, List, pos, length, IfOk, IsTrue};
+ghost use Rattle.std.specs.Prelude.{◌≡◌, ◌↔◌, ◌<◌, ◌≤◌, ◌==◌, ◌+ℤ◌, ◌∷◌, [], ℕ, List, pos, length, IfOk, IsTrue};
 ghost use Rattle.std.specs.List.{AllByRecursion, position_or_len};
 ghost use Rattle.bz_algebra.specs.Numbers.{IsNarrow};
 ghost use Rattle.bz_model.specs.declared.Model.{Model};
@@ -9,7 +9,7 @@ ghost use Rattle.bz_tree.specs.Boxes.{Box, IsRootBox};
 ghost use Rattle.bz_tree.specs.Ends.{IsNarrowBox, box_of};
 ghost use Rattle.bz_tree.specs.Leaves.{sides_of};
 ghost use Rattle.bz_tree.specs.Trees.{IsSplitOf, IsTreeOf, Tree};
-ghost use Rattle.bz_cert.specs.Shapes.{AreCuts, AreNodes, IsNarrowCut, IsNarrowLeaf, IsNarrowNode};
+ghost use Rattle.bz_cert.specs.Shapes.{IsNarrowCut, IsNarrowLeaf, IsNarrowNode};
 ghost use Rattle.bz_check.specs.declared.faults.CheckFault.TheVariants as fault;
 ghost use Rattle.bz_check.specs.CheckTests.{integer_at, leaf_tests, tree_tests};
 ghost use Rattle.bz_check.specs.LeafSides.{positions_of};
@@ -164,8 +164,9 @@ pub fn judge_tree(
 ) -> Result<(), CheckFault>
     requires root { IsRootBox split.now.model (box_of root.now) }
     requires narrow { IsNarrowBox root.now }
-    requires cuts { AreCuts cuts.now }
-    requires nodes { AreNodes nodes.now }
+    requires cuts { AllByRecursion IsNarrowCut cuts.now }
+    requires nodes { AllByRecursion IsNarrowNode nodes.now }
+    requires few { length nodes.now ≤ 65535 }
     requires goal { HasPositiveDen goal }
     ensures { (tree : Tree) → IsTreeOf nodes.now tree → JudgesUnless fault.OutOfMemory (tree_tests split.now.model split.now.part cuts.now (bounds_of goal) (box_of root.now) 0 tree) result }
 {

@@ -1,5 +1,5 @@
 -- What is to come is what was to come before.
-use Rattle.std.proofs.Common.{◌≡◌, ℕ, length}
+use Rattle.std.proofs.Common.{◌≡◌, length}
 use Rattle.bz_check.specs.Walks.{IsWalk, box_in, open_in, pending}
 use Rattle.bz_check.proofs.open_splits.go_on.Given as goal
 

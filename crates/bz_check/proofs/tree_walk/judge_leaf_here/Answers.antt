@@ -1,5 +1,5 @@
 -- The sides that are told by number are those of the leaf.
-use Rattle.std.proofs.Common.{◌≡◌, ◌∙◌, subst, List}
+use Rattle.std.proofs.Common.{◌∙◌, subst, List}
 use Rattle.bz_model.specs.declared.Ineq.{Ineq}
 use Rattle.bz_cut.specs.Tests.{Judges}
 use Rattle.bz_check.specs.CheckTests.{leaf_tests}

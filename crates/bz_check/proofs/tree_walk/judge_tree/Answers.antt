@@ -1,12 +1,12 @@
 -- Each node that is visited is the first of those that are left.
-use Rattle.std.proofs.Common.{◌≡◌, sym, ◌∙◌, ap, subst, ◌+◌, ◌∷◌, [], List, length, drop, reverse}
+use Rattle.std.proofs.Common.{◌≡◌, sym, ◌∙◌, ap, subst, ◌+◌, ◌∷◌, [], length, drop, reverse}
 use Rattle.std.proofs.lemmas.List.{length-map}
 use Rattle.bz_model.specs.Parting.{integers_of, position_of}
 use Rattle.bz_model.proofs.Sparse.{left_at, none_left}
 use Rattle.bz_tree.specs.declared.TreeNode.{TreeNode}
 use Rattle.bz_tree.specs.Ends.{box_of}
 use Rattle.bz_check.specs.TreeGoals.{bounds_of}
-use Rattle.bz_check.specs.Walks.{IsWalk, Stands, box_in, open_in}
+use Rattle.bz_check.specs.Walks.{Stands, box_in, open_in}
 use Rattle.bz_check.proofs.Forests.{stands_first, stands_last}
 use Rattle.bz_check.proofs.Walking.{walk_starts}
 use Rattle.bz_check.proofs.tree_walk.judge_tree.Goals as goal

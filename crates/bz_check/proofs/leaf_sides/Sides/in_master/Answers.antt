@@ -1,10 +1,10 @@
 -- The side with the number is the one in its own list.
-use Rattle.std.proofs.Common.{rules, FitsSigned, to_z-of_z, sym, ◌∙◌, ap, ◌≡◌, ℕ, ℤ, List}
+use Rattle.std.proofs.Common.{rules, FitsSigned, to_z-of_z, sym, ◌∙◌, ap, ℕ, ℤ, List}
 use Rattle.std.specs.Int.{w128}
 use Rattle.bz_algebra.specs.Sums.{coef}
 use Rattle.bz_model.specs.declared.Ineq.{Ineq}
 use Rattle.bz_check.specs.LeafSides.{sides_in}
-use Rattle.bz_check.proofs.LeafSides.{cut_at, lower_at, master_is, narrow_at, own_is, rhs_is, row_at, upper_at}
+use Rattle.bz_check.proofs.LeafSides.{cut_at, lower_at, master_is, row_at, upper_at}
 use Rattle.bz_check.proofs.leaf_sides.Sides.in_master.Goals as goal
 
 pub returns-in-Row : goal.returns-in-Row
