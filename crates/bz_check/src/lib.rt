@@ -23,13 +23,10 @@ mod value;
 mod whole;
 
 pub use faults::CheckFault;
-<<<<<<< HEAD
 pub use laws::{all_tests_tell, check_faults_are_unique, passing_is_true};
 pub use objective::stated_of;
 pub use stated::Stated;
 pub use whole::check;
-=======
 
 #[cfg(test)]
 mod tree_tests;
->>>>>>> fa32f637c662149d606d30c699e7031763fb65af
