@@ -27,3 +27,6 @@ pub use laws::{all_tests_tell, check_faults_are_unique, passing_is_true};
 pub use objective::stated_of;
 pub use stated::Stated;
 pub use whole::check;
+
+#[cfg(test)]
+mod tests;
