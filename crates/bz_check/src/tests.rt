@@ -177,6 +177,13 @@ fn narrow(number: i128) -> i128
     if number == i128::MIN { 0 } else { number }
 }
 
+/// That no number of the row is wide. Nothing runs.
+fn show_narrow(row: &SparseRow)
+    ensures { AllByRecursion (λ e. IsNarrow e.1) row.now }
+{
+    let _entries = row.as_slice();
+}
+
 /// The row of a number at one place; the empty row where it is 0 or has no size.
 fn single(alloc: Global, place: u32, number: i128) -> Result<SparseRow, OutOfMemory> {
     if number == 0 || number == i128::MIN {
@@ -205,11 +212,15 @@ fn cut(
 ) -> Result<Cut, OutOfMemory>
     ensures { IfOk result IsNarrowCut }
 {
+    let mu = pair(alloc, mu.0, 1, mu.1)?;
+    let alpha = single(alloc, 0, alpha)?;
+    show_narrow(&mu);
+    show_narrow(&alpha);
     Ok(Cut {
         block: 1,
-        mu: pair(alloc, mu.0, 1, mu.1)?,
+        mu,
         gcd: 1,
-        alpha: single(alloc, 0, alpha)?,
+        alpha,
         p0: narrow(p0),
         beta: narrow(beta),
     })
@@ -218,6 +229,7 @@ fn cut(
 fn leaf(lambda: SparseRow, bound: i128) -> Leaf
     ensures { IsNarrowLeaf result }
 {
+    show_narrow(&lambda);
     Leaf {
         lambda,
         delta: 1,
@@ -544,6 +556,12 @@ fn a_leaf_with_a_bound_shows_no_infeasible_model(rt: HostRuntime) -> Result<(), 
     Ok(())
 }
 
+fn at_least_one(number: i128) -> i128
+    ensures { pos 0 <ℤ result }
+{
+    if number < 1 { 1 } else { number }
+}
+
 #[test]
 fn states_the_objective(rt: HostRuntime) -> Result<(), Fail> {
     let table = [
@@ -558,7 +576,7 @@ fn states_the_objective(rt: HostRuntime) -> Result<(), Fail> {
     ];
     for (of, value, den, wanted) in table {
         let model = model(rt.alloc(), of, 1)?;
-        let stated = stated_of(&model, value, den);
+        let stated = stated_of(&model, value, at_least_one(den));
         assert_eq!(rt; stated.map(|stated| (stated.num, stated.den)), wanted);
     }
     Ok(())
