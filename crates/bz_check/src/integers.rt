@@ -36,13 +36,7 @@ fn whole_quotient(num: i128, den: i128) -> Option<i128>
 }
 
 /// Tests that x / den is whole and between the ends. The place of its upper side is `at`.
-fn judge_between(
-    x: i128,
-    den: i128,
-    lower: i128,
-    upper: i128,
-    at: u32,
-) -> Result<(), CheckFault>
+fn judge_between(x: i128, den: i128, lower: i128, upper: i128, at: u32) -> Result<(), CheckFault>
     requires positive { pos 0 <ℤ den }
     requires place { at + 1 < 2 ^ 32 }
     ensures { Judges (between_tests at x den lower upper) result }

@@ -29,4 +29,6 @@ pub use stated::Stated;
 pub use whole::check;
 
 #[cfg(test)]
+mod tests;
+#[cfg(test)]
 mod tree_tests;

@@ -50,7 +50,10 @@ pub fn stated_of(model: &Model, value: i128, den: i128) -> Option<Stated>
     ensures same { IfSome result (λ s. IsSameNumber (stated_fraction s) (objective_of model.now value den)) }
     ensures reduced { IfSome result (λ s. IsReduced (stated_fraction s)) }
 {
-    match (numerator(model, value, den), narrow_product(model.scale, den)) {
+    match (
+        numerator(model, value, den),
+        narrow_product(model.scale, den),
+    ) {
         (Ok(num), Some(den)) => Some(lowest(num, den)),
         _ => None,
     }

@@ -14,9 +14,9 @@ ghost use Rattle.bz_check.specs.BlockShapes.{HasBlockShape};
 ghost use Rattle.bz_check.specs.LeftSides.{FitsLengths, left_side_of, left_side_tests};
 
 use crate::faults::CheckFault;
+use crate::integers::judge_integers;
 use crate::numbers::{sum_at, sum_of};
 use bz_cut::{judge_at_most, judge_product, row_sum};
-use crate::integers::judge_integers;
 use bz_model::{BlockPart, Ineq, Master, Parts, Split};
 use bz_tree::NodeBox;
 
@@ -133,7 +133,6 @@ fn judge_blocks(split: &Split, master: &Master, blocks: &[BlockPart]) -> Result<
     }
     Ok(())
 }
-
 
 /// Tests that the point of the parts is feasible, whatever its etas are: the master's inequalities, then the integer
 /// columns, whose positions in the master are given in file order, and then block by block.

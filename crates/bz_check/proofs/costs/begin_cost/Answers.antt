@@ -48,9 +48,9 @@ loop-position-preserved c =
             rest = stands_some terms c.args.point.now c.loop-position.position cost c.loop-position.folding c.if-cost-ne0.folding sparse_terms known (λ z. grind (arith, ints)) narrow sum count c.loop-position.invariant.rest;
           }
       | else-cost-ne0 w ↦ rw w.folding-is (record {
-          few = omega (arith, c.loop-position.invariant.few);
-          rest = stands_none terms c.args.point.now c.loop-position.position c.loop-position.folding sparse_terms (known ∙ grind (arith, ints)) c.loop-position.invariant.rest;
-        })
+        few = omega (arith, c.loop-position.invariant.few);
+        rest = stands_none terms c.args.point.now c.loop-position.position c.loop-position.folding sparse_terms (known ∙ grind (arith, ints)) c.loop-position.invariant.rest;
+      })
     ]
 
 pub returns-clause-begins : goal.returns-clause-begins
