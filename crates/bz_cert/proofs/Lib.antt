@@ -1,5 +1,6 @@
 pub mod Bodies
 pub mod Bounds
+pub mod CertLines
 pub mod Failing
 pub mod Heads
 pub mod ListIndexes
@@ -10,3 +11,6 @@ pub mod Refusals
 pub mod SparseLists
 pub mod Standings
 pub mod Steps
+pub mod TextLines
+pub mod TextsOnce
+pub mod TextsPass

@@ -2,6 +2,7 @@
 #![tactic(auto)]
 
 mod faults;
+mod laws;
 mod line_parts;
 mod line_readers;
 mod lists;
@@ -15,5 +16,6 @@ mod spelling;
 mod words;
 
 pub use faults::{CertFault, CertKind, CertStop};
+pub use laws::text_has_one_certificate;
 pub use reader::read_cert;
 pub use records::{Certificate, Verdict};

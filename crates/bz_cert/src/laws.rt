@@ -1,0 +1,10 @@
+//! What is proved of the texts of certificates.
+ghost use Rattle.std.specs.Prelude.{ℕ, List, ◌≡◌};
+ghost use Rattle.bz_cert.specs.CertText.{IsCertText};
+ghost use Rattle.bz_cert.specs.declared.records.Certificate.{Certificate};
+
+/// A text is the text of at most one certificate, and a certificate has at most one text. Nothing runs.
+pub fn text_has_one_certificate()
+    ensures certificate { (text : List ℕ) (c d : Certificate) → IsCertText text c → IsCertText text d → c ≡ d }
+    ensures text { (text other : List ℕ) (c : Certificate) → IsCertText text c → IsCertText other c → text ≡ other }
+{}
