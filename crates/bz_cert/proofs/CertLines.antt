@@ -1,16 +1,15 @@
 -- The lines of a certificate tell the certificate.
-use Rattle.std.proofs.Common.{◌≡◌, ◌≢◌, ◌∷◌, ◌++◌, ◌∙◌, [], ℕ, suc, ◌+◌, ℤ, pos, List, Option, Some, None, length, map, ap, sym, refl, subst, append-nil, append_assoc, arith}
+use Rattle.std.proofs.Common.{◌≡◌, ◌≢◌, ◌∷◌, ◌++◌, ◌∙◌, [], ℕ, ◌+◌, ℤ, pos, List, Option, Some, None, length, map, ap, sym, refl, subst, append-nil, append_assoc, arith}
 use Rattle.bz_model.specs.declared.BlockPart.{BlockPart}
 use Rattle.bz_model.specs.declared.Master.{Master}
 use Rattle.bz_model.specs.declared.Parts.{Parts}
 use Rattle.bz_cut.specs.declared.Cut.{Cut}
-use Rattle.bz_tree.specs.declared.Leaf.{Leaf}
 use Rattle.bz_tree.specs.declared.TreeNode.{TreeNode}
 use Rattle.bz_cert.specs.declared.records.Certificate.{Certificate}
 use Rattle.bz_cert.specs.declared.records.Verdict.{Verdict}
 use Rattle.bz_cert.specs.declared.records.Verdict.TheVariants.{Optimal, Infeasible, Unbounded}
 use Rattle.bz_cert.specs.declared.words.Word.{Word}
-use Rattle.bz_cert.specs.CertText.{CertLine, block_lines, bound_lines, cert_lines, cut_line, line_with, lines_by, master_line, node_line, sparse_numbers}
+use Rattle.bz_cert.specs.CertText.{CertLine, block_lines, bound_lines, cert_lines, cut_line, line_with, lines_by, node_line, sparse_numbers}
 use Rattle.bz_cert.specs.Shapes.{HasCutsOf, HasPartsOf, HasRayOf, HasTreeOf, HasValueOf, IsShaped}
 use Rattle.bz_cert.proofs.ListLemmas.{same_head, same_tail}
 use Rattle.bz_cert.proofs.SparseLists.{same_index, same_list}

@@ -11,6 +11,7 @@ pub mod Refusals
 pub mod SparseLists
 pub mod Standings
 pub mod Steps
+pub mod TextFaults
 pub mod TextLines
 pub mod TextsOnce
 pub mod TextsPass

@@ -1,12 +1,12 @@
 -- The bytes of lines tell the lines.
-use Rattle.std.proofs.Common.{◌≡◌, ◌≢◌, ◌∷◌, ◌++◌, ◌∙◌, [], ℕ, ℤ, List, ap, sym, refl, subst, append-nil, append_assoc, codes, bytes_eq, cond}
+use Rattle.std.proofs.Common.{◌≡◌, ◌≢◌, ◌∷◌, ◌++◌, ◌∙◌, [], ℕ, ℤ, List, ap, sym, refl, append-nil, append_assoc, codes, bytes_eq, cond}
 use Rattle.std.specs.List.{AllByRecursion}
 use Rattle.bz_algebra.specs.Numbers.{IsNarrow}
 use Rattle.bz_cert.specs.declared.words.Word.{Word}
 use Rattle.bz_cert.specs.CertText.{CertLine, laid_out, line_bytes, line_with, spelled, word_bytes}
 use Rattle.bz_cert.specs.CertFaults.{BeginsWith}
 use Rattle.bz_cert.proofs.Failing.{no_feed}
-use Rattle.bz_cert.proofs.ListLemmas.{Stops, all_joined, same_tail, same_until}
+use Rattle.bz_cert.proofs.ListLemmas.{all_joined, same_tail, same_until}
 use Rattle.bz_cert.proofs.NumberTexts.{begins_stops, clear_of, same_numbers, spelled_clear}
 
 -- the word of bytes

@@ -1,18 +1,19 @@
 -- A text is one certificate's at most, and a certificate's text has no fault.
-use Rattle.std.proofs.Common.{◌≡◌, ◌≢◌, ◌∷◌, ◌++◌, ◌∙◌, [], ℕ, suc, ◌+◌, add-one, add-zero, ℤ, List, Option, Some, None, inl, inr, ap, sym, refl, subst, arith, append-nil, append_assoc, length, length-append, codes, bytes_eq, cond}
-use Rattle.std.specs.List.{AllByRecursion, sum_by}
+use Rattle.std.proofs.Common.{◌≡◌, ◌≢◌, ◌∷◌, ◌++◌, ◌∙◌, [], ℕ, List, ap, sym, refl, append_assoc, codes, bytes_eq, cond}
+use Rattle.std.specs.List.{AllByRecursion}
 use Rattle.std.proofs.lemmas.List.{append_cancel_left}
 use Rattle.bz_cert.specs.declared.records.Certificate.{Certificate}
 use Rattle.bz_cert.specs.declared.records.Verdict.{Verdict}
 use Rattle.bz_cert.specs.declared.records.Verdict.TheVariants.{Optimal, Infeasible, Unbounded}
-use Rattle.bz_cert.specs.CertText.{CertLine, IsCertText, cert_lines, first_line, head_bytes, laid_out, line_bytes, verdict_line}
+use Rattle.bz_cert.specs.CertText.{CertLine, IsCertText, cert_lines, first_line, head_bytes, laid_out, verdict_line}
+use Rattle.bz_cert.specs.CertPhases.{start}
 use Rattle.bz_cert.specs.CertReading.{PassFrom, advance}
 use Rattle.bz_cert.specs.CertFaults.{Standing}
 use Rattle.bz_cert.proofs.CertLines.{same_cert}
 use Rattle.bz_cert.proofs.ListLemmas.{same_tail, same_until}
 use Rattle.bz_cert.proofs.NumberTexts.{clear_of}
 use Rattle.bz_cert.proofs.TextLines.{IsNarrowLine, same_laid_out}
-use Rattle.bz_cert.proofs.TextsPass.{cert_passes, no_lines}
+use Rattle.bz_cert.proofs.TextsPass.{cert_passes}
 
 -- lines that pass have no wide number
 pub narrow_lines : (verdict : Verdict) (before : Standing) (ls : List CertLine) → PassFrom verdict before ls → AllByRecursion IsNarrowLine ls
@@ -53,8 +54,8 @@ one_certificate text c d h k =
     same_head_bytes c.verdict d.verdict _ _ (sym h.text_is ∙ k.text_is) in
     same_cert c d h.shaped k.shaped parts.0
     (same_laid_out (cert_lines c) (cert_lines d)
-    (narrow_lines c.verdict no_lines (cert_lines c) (cert_passes c h.shaped h.writable))
-    (narrow_lines d.verdict no_lines (cert_lines d) (cert_passes d k.shaped k.writable)) parts.1)
+    (narrow_lines c.verdict start (cert_lines c) (cert_passes c h.shaped h.writable))
+    (narrow_lines d.verdict start (cert_lines d) (cert_passes d k.shaped k.writable)) parts.1)
 
 -- a certificate has at most one text
 pub one_text : (text other : List ℕ) (c : Certificate) → IsCertText text c → IsCertText other c → text ≡ other

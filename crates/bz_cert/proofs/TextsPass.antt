@@ -1,11 +1,11 @@
 -- The lines of a certificate's text break no test.
-use Rattle.std.proofs.Common.{◌≡◌, ◌≢◌, ◌∷◌, ◌++◌, ◌∙◌, [], ℕ, suc, ◌+◌, ◌*◌, add-zero, ◌<◌, ◌≤◌, ◌^◌, ℤ, pos, List, Option, Some, None, Bool, true, false, nat_lt, inl, inr, ap, sym, refl, subst, arith, append-nil, append_assoc, length, length-append, map, take}
-use Rattle.std.specs.List.{AllByRecursion, flat_map}
+use Rattle.std.proofs.Common.{◌≡◌, ◌∷◌, ◌++◌, ◌∙◌, [], ℕ, suc, ◌+◌, ◌*◌, ◌<◌, ◌≤◌, ◌^◌, ℤ, pos, List, Option, Some, None, Bool, true, nat_lt, inl, inr, ap, sym, refl, subst, arith, append-nil, append_assoc, length, length-append, map, take}
+use Rattle.std.specs.List.{AllByRecursion}
 use Rattle.std.proofs.lemmas.Bool.{le-ltb, lt-ltb}
 use Rattle.std.proofs.lemmas.Int.{ints}
 use Rattle.bz_algebra.specs.Numbers.{IsNarrow}
 use Rattle.bz_algebra.specs.Sums.{AllBelow}
-use Rattle.bz_num.specs.Row.{IsSparse, IsSparseFrom}
+use Rattle.bz_num.specs.Row.{IsSparseFrom}
 use Rattle.bz_model.specs.declared.BlockPart.{BlockPart}
 use Rattle.bz_model.specs.declared.Parts.{Parts}
 use Rattle.bz_cut.specs.declared.Cut.{Cut}
@@ -16,9 +16,10 @@ use Rattle.bz_cert.specs.declared.records.Certificate.{Certificate}
 use Rattle.bz_cert.specs.declared.records.Verdict.{Verdict}
 use Rattle.bz_cert.specs.declared.records.Verdict.TheVariants.{Optimal, Infeasible, Unbounded}
 use Rattle.bz_cert.specs.declared.words.Word.{Word}
-use Rattle.bz_cert.specs.Shapes.{AreCuts, AreNarrowParts, AreNodes, HasCutsOf, HasPartsOf, HasRayOf, HasTreeOf, HasValueOf, IsNarrowCut, IsNarrowLeaf, IsNarrowNode, IsShaped}
-use Rattle.bz_cert.specs.CertText.{CertLine, HasFewBlocks, IsSparseList, IsWritable, IsWritableCut, IsWritableNode, block_lines, bound_lines, cert_lines, cut_line, line_with, lines_by, master_line, node_line, sparse_numbers}
-use Rattle.bz_cert.specs.CertFaults.{AreOfCut, AreOfLeaf, BreaksTree, IsIn, IsIndex, IsWhole, Passes, Standing, alternate, behind_list, indexes_of, list_indexes, lists_indexes, words_behind, words_of_block, words_of_cuts}
+use Rattle.bz_cert.specs.Shapes.{AreCuts, AreNodes, HasCutsOf, HasPartsOf, HasRayOf, HasTreeOf, HasValueOf, IsNarrowCut, IsNarrowLeaf, IsNarrowNode, IsShaped}
+use Rattle.bz_cert.specs.CertText.{CertLine, HasFewBlocks, IsSparseList, IsWritable, IsWritableCut, IsWritableNode, block_lines, bound_lines, cert_lines, cut_line, line_with, lines_by, node_line, sparse_numbers}
+use Rattle.bz_cert.specs.CertFaults.{BreaksTree, IsIn, IsIndex, IsWhole, Passes, Standing, alternate, behind_list, list_indexes, lists_indexes, words_behind, words_of_block, words_of_cuts}
+use Rattle.bz_cert.specs.CertPhases.{start}
 use Rattle.bz_cert.specs.CertReading.{PassFrom, advance, tree_words}
 use Rattle.bz_cert.proofs.Failing.{cut_numbers, few_cuts}
 use Rattle.bz_cert.proofs.ListIndexes.{behind_is}
@@ -299,13 +300,9 @@ blocks_then verdict before last first (block ∷ blocks) more words h few narrow
     (blocks_then verdict (advance before (line_with Word.Block (pos (suc first) ∷ block.times ∷ block.y))) last (suc first) blocks more words
     (behind_block verdict before last first block words h) (omega (arith, few)) narrow.1 later))
 
--- the standing before the first line behind the verdict's
-abbrev pub no_lines : Standing
-no_lines = record { last = None; blocks = 0; told = 0; cuts = 0; splits = 0; leaves = 0 }
-
 lines_pass : (v : Verdict) (p : Option Parts) (x : ℤ) (r : List ℤ) (cuts : List Cut) (nodes : List TreeNode) → HasPartsOf v p → HasValueOf v x → HasRayOf v r →
     HasCutsOf v cuts → HasTreeOf v nodes → HasFewBlocks p → AllByRecursion IsWritableCut cuts → AllByRecursion IsWritableNode nodes →
-    PassFrom v no_lines (lines_by v p x r cuts nodes)
+    PassFrom v start (lines_by v p x r cuts nodes)
 lines_pass Optimal None x r cuts nodes hp hx hr hc hn few wc wn = absurd hp
 lines_pass Optimal (Some p) x r cuts nodes hp hx hr hc hn few wc wn =
     (record { possible = inl refl; tree = λ t. t; narrow = (hp.den, hp.x); indexes = tt; few = λ t. t; enough = omega arith; in_order = tt },
@@ -331,7 +328,7 @@ lines_pass Optimal (Some p) x r cuts nodes hp hx hr hc hn few wc wn =
     }) hc hn wc wn (λ d whole broken. broken whole)))))
 lines_pass Infeasible (Some p) x r cuts nodes hp hx hr hc hn few wc wn = absurd hp
 lines_pass Infeasible None x r cuts nodes hp hx hr hc hn few wc wn =
-    bound_pass Infeasible no_lines cuts nodes
+    bound_pass Infeasible start cuts nodes
     (record { words_are = λ to_come. refl; told = refl; cuts = refl; splits = refl; leaves = refl }) hc hn wc wn (λ d whole broken. broken whole)
 lines_pass Unbounded None x r cuts nodes hp hx hr hc hn few wc wn = absurd hp
 lines_pass Unbounded (Some p) x r cuts nodes hp hx hr hc hn few wc wn =
@@ -350,6 +347,6 @@ lines_pass Unbounded (Some p) x r cuts nodes hp hx hr hc hn few wc wn =
     (record { possible = inl refl; tree = λ t. t; narrow = tt; indexes = tt; few = λ t. t; enough = refl; in_order = tt }, tt))))
 
 -- the lines of a certificate pass
-pub cert_passes : (c : Certificate) → IsShaped c → IsWritable c → PassFrom c.verdict no_lines (cert_lines c)
+pub cert_passes : (c : Certificate) → IsShaped c → IsWritable c → PassFrom c.verdict start (cert_lines c)
 cert_passes c h k =
     lines_pass c.verdict c.parts c.value c.ray c.cuts c.tree h.parts h.value h.ray h.cuts h.tree k.blocks k.cuts k.nodes

@@ -16,6 +16,6 @@ mod spelling;
 mod words;
 
 pub use faults::{CertFault, CertKind, CertStop};
-pub use laws::text_has_one_certificate;
+pub use laws::{text_has_one_certificate, text_has_one_fault, texts_have_no_fault};
 pub use reader::read_cert;
 pub use records::{Certificate, Verdict};
