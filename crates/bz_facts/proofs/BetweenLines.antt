@@ -1,5 +1,5 @@
 -- The reader of facts, between two lines.
-use Rattle.std.proofs.Common.{ℕ, ◌≡◌, ◌≤◌, ◌<◌, ◌^◌, ◌-◌, ◌+◌, ◌∙◌, refl, sym, ap, subst, arith, inl, inr, Bool, true, false, ◌&&◌, not, length, List, [], ◌∷◌, ◌++◌, Option, Some, None, Result, Ok, Err, cond}
+use Rattle.std.proofs.Common.{ℕ, ◌≡◌, ◌<◌, ◌^◌, ◌-◌, ◌+◌, ◌∙◌, refl, sym, ap, subst, arith, inl, inr, Bool, true, false, ◌&&◌, length, List, [], ◌∷◌, ◌++◌, Option, Some, None, Ok, Err}
 use Rattle.std.specs.List.{AllByRecursion, last_or}
 use Rattle.std.specs.Bool.{MatchBool}
 use Rattle.std.proofs.lemmas.List.{length-append}
@@ -9,7 +9,7 @@ use Rattle.bz_lines.specs.LineReading.{BeginsRefused, NextLine, read_line}
 use Rattle.bz_lines.specs.declared.reader.Line.{Line}
 use Rattle.bz_lines.specs.declared.reader.LineFault.{LineFault}
 use Rattle.bz_lines.specs.declared.reader.LineFault.TheVariants.{NotText as LineNotText, OutOfMemory as NoRoomForLine}
-use Rattle.bz_lines.specs.NumberedLines.{NumberedLine, line_count, numbered_after, numbered_lines}
+use Rattle.bz_lines.specs.NumberedLines.{NumberedLine, line_count}
 use Rattle.bz_lines.proofs.FirstFaults.{none_fails, some_fails}
 use Rattle.bz_facts.specs.declared.faults.MpsKind.{MpsKind}
 use Rattle.bz_facts.specs.declared.faults.MpsKind.TheVariants.{NoEnd, NotText}
@@ -19,7 +19,7 @@ use Rattle.bz_facts.specs.declared.records.Facts.{Facts}
 use Rattle.bz_facts.specs.declared.records.Heading.TheVariants.{EndData}
 use Rattle.bz_facts.specs.declared.tables.Tables.{Tables}
 use Rattle.bz_facts.specs.FactTexts.{AreFacts, HasNoEnd, IsFactsOf, IsLineFault, StopsBy, last_number, lines_read}
-use Rattle.bz_facts.specs.Headings.{Lines, headings, is_end, is_it, word}
+use Rattle.bz_facts.specs.Headings.{Lines, is_end, is_it}
 use Rattle.bz_facts.specs.LineStops.{stop_by}
 use Rattle.bz_facts.specs.LineSteps.{DataLineAdded, HeaderLineAdded, LineAdded, LinePassed, line_tests_by}
 use Rattle.bz_facts.specs.LineTests.{line_tests}
@@ -157,20 +157,22 @@ held_facts seen t end f h a = record {
 pub next-ends : (text : List ℕ) (lines : LineReader) (t new : Tables) (l : NumberedLine) (more : Lines) (f : Facts) → length text < 2 ^ 32 - 1 → IsReading text lines t → to_come lines ≡ l ∷ more → first_failing (line_tests_by t l) ≡ None → LineAdded l t new → is_end l ≡ true → AreTableFacts new l.number f → IsFactsOf text f × AreSound f
 next-ends text lines t new l more f few r e p a i k =
     let h = next_passed text lines t l more r e in
-    let all : lines_read text ≡ r.before ++ l ∷ [] = passed-end text r.before more l h i in
-    (record {
-      lines = passed-all text r.before more l h (none_failed text lines t l r p) i;
-      ended = passed-ended text r.before more l h i;
-      facts = subst (λ ls. AreFacts ls f) (sym all) (held_facts (r.before ++ l ∷ []) new l.number f (line-holds r.before l t new r.holds p a) k);
-      end = k.last ∙ sym (ap (λ ls. last_number (last_or None ls)) all ∙ ap last_number (last-more None r.before l));
-    }, sound-facts t new l l.number f (sound-line t new l (next_short text lines t l more few r e) r.sound p a) i p a k)
+    let all : lines_read text ≡ r.before ++ l ∷ [] = passed-end text r.before more l h i in (
+      record {
+        lines = passed-all text r.before more l h (none_failed text lines t l r p) i;
+        ended = passed-ended text r.before more l h i;
+        facts = subst (λ ls. AreFacts ls f) (sym all) (held_facts (r.before ++ l ∷ []) new l.number f (line-holds r.before l t new r.holds p a) k);
+        end = k.last ∙ sym (ap (λ ls. last_number (last_or None ls)) all ∙ ap last_number (last-more None r.before l));
+      },
+      sound-facts t new l l.number f (sound-line t new l (next_short text lines t l more few r e) r.sound p a) i p a k,
+    )
 
 -- No line is left.
 
 pub nothing-left : (text : List ℕ) (lines next : LineReader) (t : Tables) → IsReading text lines t → to_come lines ≡ [] → next.rest ≡ [] → lines_in next ≡ lines_in lines → IsLineFault text next.number NoEnd
 nothing-left text lines next t r e n c =
     let number : next.number ≡ line_count text =
-      omega (arith, c, r.count, ap line_count n) in
+    omega (arith, c, r.count, ap line_count n) in
     inr (subst (λ n. HasNoEnd text n NoEnd) (sym number) (passed-no_end text r.before (subst (HasPassed text r.before) e r.passed)))
 
 -- What the reader of lines answers, and what the reader of a line does.

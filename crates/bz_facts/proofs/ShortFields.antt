@@ -1,5 +1,5 @@
 -- No field of a text is longer than the text.
-use Rattle.std.proofs.Common.{ℕ, zero, suc, ◌+◌, ◌<◌, ◌≤◌, ◌^◌, ◌≡◌, refl, sym, ap, subst, arith, Bool, true, false, ◌==◌, List, [], ◌∷◌, ◌++◌, drop, filter, length, ◌-◌, slice_index, take, map, cond}
+use Rattle.std.proofs.Common.{ℕ, zero, suc, ◌+◌, ◌<◌, ◌≤◌, ◌^◌, ◌≡◌, refl, sym, subst, arith, Bool, true, false, ◌==◌, List, [], ◌∷◌, ◌++◌, drop, filter, length, ◌-◌, slice_index, take, cond}
 use Rattle.std.specs.List.{AllByRecursion, enumerate_from, onto_first, slice_split}
 use Rattle.std.specs.Str.Lines.{lines, lines_of_parts, strip_carriage_return}
 use Rattle.std.proofs.lemmas.List.{length-take-le}

@@ -1,5 +1,5 @@
 -- Lines none of which fails leave the tables sound, and so the facts that are made of them.
-use Rattle.std.proofs.Common.{ℕ, ◌+◌, ◌≤◌, ◌≡◌, refl, sym, ap, ◌∙◌, subst, arith, Bool, true, false, ◌&&◌, ◌||◌, not, List, [], ◌∷◌, ◌++◌, filter, length, Option, Some, None, cond, option_to_list}
+use Rattle.std.proofs.Common.{ℕ, ◌≤◌, ◌≡◌, refl, sym, ap, ◌∙◌, subst, arith, Bool, true, false, ◌&&◌, ◌||◌, not, List, [], ◌∷◌, ◌++◌, filter, length, Option, Some, None, cond}
 use Rattle.std.specs.Bool.{MatchBool}
 use Rattle.std.specs.List.{AllByRecursion, IsDistinct, list_any}
 use Rattle.std.proofs.lemmas.List.{length-append}
@@ -19,11 +19,11 @@ use Rattle.bz_facts.specs.declared.tables.Columns.{Columns as ColumnTable}
 use Rattle.bz_facts.specs.declared.tables.Tables.{Tables}
 use Rattle.bz_facts.specs.Headings.{is_end, is_it}
 use Rattle.bz_facts.specs.LineFacts.{entries_on}
-use Rattle.bz_facts.specs.LineSteps.{ColumnLineAdded, DataLineAdded, EntriesAdded, HeaderLineAdded, LineAdded, MarkerAdded, column_tests_by, data_tests_by, entry_tests_by, header_tests_by, is_out_of_order_by, line_tests_by, with_begun, with_header, with_word}
+use Rattle.bz_facts.specs.LineSteps.{DataLineAdded, EntriesAdded, HeaderLineAdded, LineAdded, MarkerAdded, column_tests_by, data_tests_by, entry_tests_by, header_tests_by, is_out_of_order_by, line_tests_by, with_begun}
 use Rattle.bz_facts.specs.LineTests.{is_counted, is_free, is_same_entry, is_same_row, marker_tests}
-use Rattle.bz_facts.specs.SoundFacts.{AreSound, IsBoundAmong, IsEntryAmong, IsGivenAmong, NeverFallFrom}
+use Rattle.bz_facts.specs.SoundFacts.{AreSound, IsBoundAmong, IsEntryAmong, NeverFallFrom}
 use Rattle.bz_facts.specs.TableFacts.{AreEmpty, AreTableFacts}
-use Rattle.bz_facts.specs.Words.{heading, is_marker}
+use Rattle.bz_facts.specs.Words.{is_marker}
 use Rattle.bz_facts.proofs.LineAdding.{heading-data, heading-header}
 use Rattle.bz_facts.proofs.ShortFields.{IsShort}
 use Rattle.bz_facts.proofs.SoundLists.{not-none}

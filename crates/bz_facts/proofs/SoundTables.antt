@@ -1,18 +1,15 @@
 -- What holds of the tables behind lines none of which fails.
-use Rattle.std.proofs.Common.{ℕ, zero, suc, ◌+◌, ◌<◌, ◌≤◌, ◌≡◌, refl, sym, ap, ◌∙◌, subst, arith, Bool, true, false, ◌&&◌, ◌||◌, ◌==◌, not, nat_le, nat_lt, bytes_eq, List, [], ◌∷◌, ◌++◌, drop, filter, length, map, flat_map, Option, Some, None, cond, option_to_list, append-nil}
+use Rattle.std.proofs.Common.{ℕ, ◌+◌, ◌<◌, ◌≤◌, ◌≡◌, refl, sym, ap, ◌∙◌, subst, arith, Bool, true, false, ◌&&◌, not, nat_le, nat_lt, bytes_eq, List, [], ◌∷◌, ◌++◌, drop, filter, length, map, flat_map, Option, Some, None, cond, option_to_list, append-nil}
 use Rattle.std.specs.Prelude.{is_none}
-use Rattle.std.specs.Bool.{MatchBool}
-use Rattle.std.specs.List.{AllByRecursion, IsDistinct, list_any}
+use Rattle.std.specs.List.{AllByRecursion, IsDistinct}
 use Rattle.std.specs.Option.{ForSome}
 use Rattle.std.proofs.lemmas.Bool.{leb-false, ltb-false}
 use Rattle.std.proofs.lemmas.List.{length-append}
 use Rattle.std.proofs.lemmas.Slice.Eq.{bytes_eq-Decides}
 use Rattle.std.proofs.lemmas.List.Elements.{filter-append}
-use Rattle.std.proofs.lemmas.List.Folds.{list_any-append}
 use Rattle.bz_lines.specs.FieldLists.{Fields as FieldList, field}
 use Rattle.bz_lines.specs.FirstFault.{NoneFails, first_failing}
 use Rattle.bz_lines.specs.NameLists.{is_among, place, with_name}
-use Rattle.bz_lines.specs.NumberedLines.{NumberedLine}
 use Rattle.bz_lines.proofs.FirstFaults.{first_failing-none, none_fails}
 use Rattle.bz_facts.specs.declared.faults.MpsKind.TheVariants.{DoubleEntry, Limit, Number}
 use Rattle.bz_num.specs.declared.decimal.Dec.{Dec}
@@ -21,26 +18,21 @@ use Rattle.bz_facts.specs.declared.records.BoundLine.{BoundLine}
 use Rattle.bz_facts.specs.declared.records.BoundType.{BoundType}
 use Rattle.bz_facts.specs.declared.records.Entry.{Entry}
 use Rattle.bz_facts.specs.declared.records.Given.{Given}
-use Rattle.bz_facts.specs.declared.records.Heading.{Heading}
-use Rattle.bz_facts.specs.declared.records.Heading.TheVariants.{Name, ObjSense, Rows, Columns, Rhs, Ranges, Bounds, EndData}
 use Rattle.bz_facts.specs.declared.records.RowType.{RowType}
 use Rattle.bz_facts.specs.declared.tables.BoundTable.{BoundTable}
 use Rattle.bz_facts.specs.declared.tables.Columns.{Columns as ColumnTable}
 use Rattle.bz_facts.specs.declared.tables.GivenTable.{GivenTable}
 use Rattle.bz_facts.specs.declared.tables.Rows.{Rows as RowTable}
-use Rattle.bz_facts.specs.declared.tables.Tables.{Tables}
-use Rattle.bz_facts.specs.Headings.{is_it}
 use Rattle.bz_facts.specs.LineFacts.{behind_bound_set, behind_set, bound_number, bound_on, bound_set, entries_on, entry_of, given_of, given_on, is_own, names_bound_set, names_set, number_of, pairs, set_of}
-use Rattle.bz_facts.specs.LineSteps.{BoundAdded, DataLineAdded, EntriesAdded, GivenAdded, HeaderLineAdded, LineAdded, MarkerAdded, RowAdded, as_sets, bound_tests_by, column_tests_by, data_tests_by, entry_tests_by, given_tests_by, header_tests_by, line_tests_by, with_begun, with_header, with_word}
-use Rattle.bz_facts.specs.LineTests.{bound_tests_of, is_wrong_side, number_tests, is_counted, is_free, is_row_past_limit, is_past_limit, is_same_entry, is_same_row, marker_tests, own_bound_tests, own_given_tests, pair_tests, repeats, row_tests}
-use Rattle.bz_facts.specs.SoundFacts.{AreSound, IsBoundAmong, IsEntryAmong, IsFinite, IsGivenAmong, NeverFallFrom}
+use Rattle.bz_facts.specs.LineSteps.{BoundAdded, EntriesAdded, GivenAdded, MarkerAdded, RowAdded, as_sets, bound_tests_by, entry_tests_by, given_tests_by}
+use Rattle.bz_facts.specs.LineTests.{bound_tests_of, is_wrong_side, number_tests, is_counted, is_row_past_limit, is_past_limit, is_same_entry, is_same_row, own_bound_tests, own_given_tests, pair_tests, repeats, row_tests}
+use Rattle.bz_facts.specs.SoundFacts.{IsBoundAmong, IsEntryAmong, IsFinite, IsGivenAmong, NeverFallFrom}
 use Rattle.bz_facts.specs.Spellings.{IsSpelled, Spelled, is_infinite, is_no_number, is_too_wide, no_number, number, spelled, too_wide, value}
 use Rattle.bz_facts.specs.TableNotes.{is_noted}
 use Rattle.bz_facts.specs.Words.{bound_type, has_number, is_marker, row_type}
-use Rattle.bz_facts.proofs.SoundLists.{all-append, all-map, all-of, all-tested, all-weaker, distinct-more, equal-turned, front-none, never-fall-more, not-none, or-none, place-inside, place-new, place-pushed}
+use Rattle.bz_facts.proofs.SoundLists.{all-append, all-map, all-tested, all-weaker, distinct-more, equal-turned, front-none, never-fall-more, not-none, or-none, place-inside, place-new, place-pushed}
 use Rattle.bz_facts.proofs.ShortFields.{IsShort, short-drop, short-field, short-pairs}
 use Rattle.bz_facts.proofs.SpellingLaws.{spelled_is_exact}
-use Rattle.bz_facts.proofs.TableLemmas.{place-within}
 
 -- Pairs and numbers that pass their tests.
 
@@ -161,7 +153,7 @@ entries_pass rows t fs l e =
     let last = (repeats is_same_entry t.entries more, DoubleEntry) ∷ (is_past_limit t.names t.entries fs more, Limit) ∷ [] in
     let h = none_fails (entry_tests_by rows t fs) e in
     let rest : first_failing (flat_map (pair_tests rows) (pairs (drop 1 fs)) ++ last) ≡ None =
-      first_failing-none (flat_map (pair_tests rows) (pairs (drop 1 fs)) ++ last) h.1.1 in
+    first_failing-none (flat_map (pair_tests rows) (pairs (drop 1 fs)) ++ last) h.1.1 in
     let both = front-none (flat_map (pair_tests rows) (pairs (drop 1 fs))) last rest in
     let two = none_fails last both.1 in
     record {
@@ -204,8 +196,8 @@ noted_place names name other e h =
     by : (b : Bool) → is_among names name ≡ b → place names name + 1 ≡ length (with_name names name) → place (with_name names name) name + 1 ≡ length (with_name names name)
     by true i f = ap (λ b. place (cond b names (names ++ name ∷ [])) name + 1) i ∙ f
     by false i f = ap (λ b. place (cond b names (names ++ name ∷ [])) name + 1) i
-      ∙ ap (λ n. n + 1) (place-pushed (bytes_eq name) names name i (own_bytes name))
-      ∙ sym (ap (λ b. length (cond b names (names ++ name ∷ []))) i ∙ length-append names (name ∷ []) ∙ omega arith)
+        ∙ ap (λ n. n + 1) (place-pushed (bytes_eq name) names name i (own_bytes name))
+        ∙ sym (ap (λ b. length (cond b names (names ++ name ∷ []))) i ∙ length-append names (name ∷ []) ∙ omega arith)
 
 noted_same : (o : Option (List ℕ)) (name other : List ℕ) → o ≡ Some name → is_noted o other ≡ true → bytes_eq name other ≡ true
 noted_same o name other e h = sym (ap (λ o. is_noted o other) e) ∙ h
@@ -235,15 +227,15 @@ sound-entries rows fs old new m s p a =
     let columns : (not among && nat_le 2048 (length old.names)) ≡ false = sym (ap (λ b. (not b && not among) && nat_le 2048 (length old.names)) m) ∙ limits.0 in
     let few : length old.entries + length more ≤ 65536 = ltb-false 65536 (length old.entries + length more) limits.1 in
     let below : AllByRecursion (λ e. e.column ≤ c) old.entries =
-      all-weaker (IsEntryAmong (length old.names) (length rows)) (λ e. e.column ≤ c) (λ e h. omega (arith, h.column, last, size, not_fewer among (length old.names))) old.entries s.entries in
+    all-weaker (IsEntryAmong (length old.names) (length rows)) (λ e. e.column ≤ c) (λ e h. omega (arith, h.column, last, size, not_fewer among (length old.names))) old.entries s.entries in
     let is : more ≡ map (entry_of rows c) (pairs (drop 1 fs)) = entries_of_pairs rows old.names fs m in
     let here : AllByRecursion (λ e. e.column ≡ c) more =
-      subst (AllByRecursion (λ e. e.column ≡ c)) (sym is) (all-map (IsPair rows) (λ e. e.column ≡ c) (entry_of rows c) (λ q h. refl) (pairs (drop 1 fs)) p.tested) in
+    subst (AllByRecursion (λ e. e.column ≡ c)) (sym is) (all-map (IsPair rows) (λ e. e.column ≡ c) (entry_of rows c) (λ q h. refl) (pairs (drop 1 fs)) p.tested) in
     let added : AllByRecursion (IsEntryAmong (length new.names) (length rows)) more =
-      subst (AllByRecursion (IsEntryAmong (length new.names) (length rows))) (sym is)
-      (all-map (IsPair rows) (IsEntryAmong (length new.names) (length rows)) (entry_of rows c) (λ q h. record { column = omega (arith, last); row = place-inside (bytes_eq q.0) rows h.there; within = h.within }) (pairs (drop 1 fs)) p.tested) in
+    subst (AllByRecursion (IsEntryAmong (length new.names) (length rows))) (sym is)
+    (all-map (IsPair rows) (IsEntryAmong (length new.names) (length rows)) (entry_of rows c) (λ q h. record { column = omega (arith, last); row = place-inside (bytes_eq q.0) rows h.there; within = h.within }) (pairs (drop 1 fs)) p.tested) in
     let kept : AllByRecursion (IsEntryAmong (length new.names) (length rows)) old.entries =
-      all-weaker (IsEntryAmong (length old.names) (length rows)) (IsEntryAmong (length new.names) (length rows)) (λ e h. record { column = omega (arith, h.column, size, not_fewer among (length old.names)); row = h.row; within = h.within }) old.entries s.entries in
+    all-weaker (IsEntryAmong (length old.names) (length rows)) (IsEntryAmong (length new.names) (length rows)) (λ e h. record { column = omega (arith, h.column, size, not_fewer among (length old.names)); row = h.row; within = h.within }) old.entries s.entries in
     record {
       integers = ap length a.integers ∙ length-append old.integers.items (cond among [] (old.open ∷ [])) ∙ omega (arith, one_each among old.open (length old.integers.items) (length old.names) s.integers, size);
       few_columns = omega (arith, size, room among (length old.names) s.few_columns columns);
@@ -276,7 +268,7 @@ given_pass rows before true fs l s e =
     let tested = pairs_pass rows fs l both.0 in
     record {
       all = all-append (IsGivenAmong (length rows)) before more s.all
-        (all-map (IsPair rows) (IsGivenAmong (length rows)) (given_of rows) (λ q h. record { row = place-inside (bytes_eq q.0) rows h.there; within = h.within }) (pairs fs) tested);
+          (all-map (IsPair rows) (IsGivenAmong (length rows)) (given_of rows) (λ q h. record { row = place-inside (bytes_eq q.0) rows h.there; within = h.within }) (pairs fs) tested);
       once = distinct-more is_same_row (λ a b. equal-turned a.row b.row) before more s.once apart.0;
     }
 
@@ -292,7 +284,7 @@ sound-given rows fs old new l s e a =
     let h = none_fails (given_tests_by rows old fs) e in
     subst (SoundGivens (length rows)) (sym a.givens)
     (given_pass rows old.givens (is_own (as_sets old.set) (set_of fs)) (behind_set fs) (short-behind_set fs l) s
-      (first_failing-none (cond (is_own (as_sets old.set) (set_of fs)) (own_given_tests rows old.givens (given_on rows (as_sets old.set) fs) (behind_set fs)) []) h.1))
+    (first_failing-none (cond (is_own (as_sets old.set) (set_of fs)) (own_given_tests rows old.givens (given_on rows (as_sets old.set) fs) (behind_set fs)) []) h.1))
 
 -- BOUNDS.
 
@@ -313,10 +305,13 @@ bound_finite names t true fs l h = finite_number (number_of (field 1 fs)) (is_in
 
 bound_pass : (names sets : List (List ℕ)) (line : ℕ) (t : BoundType) (own : Bool) (fs : FieldList) → AllByRecursion IsShort fs → NoneFails (cond own (own_bound_tests names t fs) []) → AllByRecursion (IsBoundAmong (length names)) (cond own (record { line = line; kind = t; column = place names (field 0 fs); number = bound_number t (field 1 fs) } ∷ []) [])
 bound_pass names sets line t false fs l h = tt
-bound_pass names sets line t true fs l h = (record {
-  column = place-inside (bytes_eq (field 0 fs)) names (not-none (is_among names (field 0 fs)) h.0);
-  finite = bound_finite names t (has_number t) fs l h.1;
-}, tt)
+bound_pass names sets line t true fs l h = (
+  record {
+    column = place-inside (bytes_eq (field 0 fs)) names (not-none (is_among names (field 0 fs)) h.0);
+    finite = bound_finite names t (has_number t) fs l h.1;
+  },
+  tt,
+)
 
 short-behind_bound_set : (t : BoundType) (fs : FieldList) → AllByRecursion IsShort fs → AllByRecursion IsShort (behind_bound_set t fs)
 short-behind_bound_set t fs l = by (names_bound_set t fs)

@@ -93,11 +93,7 @@ fn on_header_line<'a>(tables: &mut Tables<'a>, fields: &[&'a [u8]]) -> Result<()
 }
 
 /// Reads a data line, whose number is given.
-fn on_data_line<'a>(
-    tables: &mut Tables<'a>,
-    line: u32,
-    fields: &[&'a [u8]],
-) -> Result<(), Refusal>
+fn on_data_line<'a>(tables: &mut Tables<'a>, line: u32, fields: &[&'a [u8]]) -> Result<(), Refusal>
     requires rows { length tables.old.rows.names < 2 ^ 32 }
     requires columns { length tables.old.columns.names < 2 ^ 32 }
     ensures { let fs = map (λ f. f.now) fields.now in PassesLine (data_tests_by tables.old.headers.section tables.old fs) (λ _. DataLineAdded tables.old.headers.section line fs tables.old tables.new) result }
@@ -200,11 +196,7 @@ fn pass_line<'a>(tables: &mut Tables<'a>, line: &Line<'a>) -> Result<bool, MpsSt
 }
 
 /// Reads a text's lines into the tables, and gives the line of ENDATA.
-fn read_lines<'a>(
-    alloc: Global,
-    text: &'a [u8],
-    tables: &mut Tables<'a>,
-) -> Result<u32, MpsStop>
+fn read_lines<'a>(alloc: Global, text: &'a [u8], tables: &mut Tables<'a>) -> Result<u32, MpsStop>
     requires few { length text.now < 2 ^ 32 - 1 }
     requires empty { AreEmpty tables.old }
     ensures { MatchResult result (λ end. (f : Facts) → AreTableFacts tables.new end f → IsFactsOf text.now f × AreSound f) (StopsBy (IsLineFault text.now)) }
