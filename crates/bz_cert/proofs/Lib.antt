@@ -15,3 +15,4 @@ pub mod TextFaults
 pub mod TextLines
 pub mod TextsOnce
 pub mod TextsPass
+pub mod Written

@@ -5,6 +5,7 @@ mod faults;
 mod laws;
 mod line_parts;
 mod line_readers;
+mod line_writers;
 mod lists;
 mod places;
 mod body;
@@ -14,8 +15,10 @@ mod reader;
 mod records;
 mod spelling;
 mod words;
+mod writing;
 
 pub use faults::{CertFault, CertKind, CertStop};
 pub use laws::{text_has_one_certificate, text_has_one_fault, texts_have_no_fault};
 pub use reader::read_cert;
 pub use records::{Certificate, Verdict};
+pub use writing::write_cert;
