@@ -42,13 +42,16 @@ blocks_narrow verdict before first (part ∷ parts) h = ((h.0.narrow.1.0, h.0.na
 cuts_narrow : (verdict : Verdict) (before : Standing) (cuts : List Cut) → PassFrom verdict before (map cut_line cuts) → AllByRecursion IsWritableCut cuts →
     AllByRecursion IsNarrowCut cuts
 cuts_narrow verdict before [] h w = tt
-cuts_narrow verdict before (cut ∷ cuts) h w = (record {
-  p0 = h.0.narrow.1.0;
-  beta = h.0.narrow.1.1.0;
-  gcd = h.0.narrow.1.1.1.0;
-  alpha = sparse_narrow 0 cut.alpha w.0.alpha.sparse;
-  mu = sparse_narrow 0 cut.mu w.0.mu.sparse;
-}, cuts_narrow verdict (advance before (cut_line cut)) cuts h.1 w.1)
+cuts_narrow verdict before (cut ∷ cuts) h w = (
+  record {
+    p0 = h.0.narrow.1.0;
+    beta = h.0.narrow.1.1.0;
+    gcd = h.0.narrow.1.1.1.0;
+    alpha = sparse_narrow 0 cut.alpha w.0.alpha.sparse;
+    mu = sparse_narrow 0 cut.mu w.0.mu.sparse;
+  },
+  cuts_narrow verdict (advance before (cut_line cut)) cuts h.1 w.1,
+)
 
 node_narrow : (verdict : Verdict) (before : Standing) (node : TreeNode) → Passes verdict before (node_line node) → IsWritableNode node → IsNarrowNode node
 node_narrow verdict before (TreeNode.Split position left right) h w = (h.narrow.1.0, h.narrow.1.1.0)
@@ -65,9 +68,10 @@ bound_shaped : (verdict : Verdict) (before : Standing) (cuts : List Cut) (tree :
 bound_shaped verdict before cuts tree n r h pass =
     let lists : PassFrom verdict (advance before (line_with Word.Cuts (pos (length cuts) ∷ []))) (map cut_line cuts ++ map node_line tree) × PassFrom verdict _ (line_with Word.End [] ∷ []) =
     pass_apart verdict (advance before (line_with Word.Cuts (pos (length cuts) ∷ []))) (map cut_line cuts ++ map node_line tree) (line_with Word.End [] ∷ []) pass.1 in
-    let both = pass_apart verdict (advance before (line_with Word.Cuts (pos (length cuts) ∷ []))) (map cut_line cuts) (map node_line tree) lists.0 in
-    (record { few = h.few_cuts; narrow = cuts_narrow verdict _ cuts both.0 h.writable_cuts },
-    record { few = h.few_nodes; narrow = nodes_narrow verdict _ tree both.1 h.writable_nodes; tree = h.whole; is_tree = h.is_tree })
+    let both = pass_apart verdict (advance before (line_with Word.Cuts (pos (length cuts) ∷ []))) (map cut_line cuts) (map node_line tree) lists.0 in (
+      record { few = h.few_cuts; narrow = cuts_narrow verdict _ cuts both.0 h.writable_cuts },
+      record { few = h.few_nodes; narrow = nodes_narrow verdict _ tree both.1 h.writable_nodes; tree = h.whole; is_tree = h.is_tree },
+    )
 
 -- the first line of a point
 pub master_fine : (verdict : Verdict) (before : Standing) (word : Word) → IsIn (Word.Master ∷ []) word → BreaksTree verdict before word → ⊥
@@ -289,12 +293,15 @@ unbounded_body den x parts ray n r n1 r1 n2 r2 n3 r3 h b line none =
     record {
       verdict_is = refl;
       shaped = record {
-        parts = (record {
-          den = front.0.0.narrow.0;
-          x = front.0.0.narrow.1;
-          eta = tt;
-          blocks = blocks_narrow Verdict.Unbounded _ 1 parts blocks.0;
-        }, refl);
+        parts = (
+          record {
+            den = front.0.0.narrow.0;
+            x = front.0.0.narrow.1;
+            eta = tt;
+            blocks = blocks_narrow Verdict.Unbounded _ 1 parts blocks.0;
+          },
+          refl,
+        );
         value = refl;
         ray = blocks.1.0.narrow;
         cuts = refl;

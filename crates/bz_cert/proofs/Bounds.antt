@@ -128,10 +128,11 @@ pub tree_read : (verdict : Verdict) (before : Standing) (count : ℕ) (cuts : Li
     × IsWhole (advance_all before (count_line count ∷ (map cut_line cuts ++ map node_line tree)))
 tree_read verdict before count cuts tree n r n1 r1 n2 r2 n3 r3 a h k t =
     let all = t.reads verdict _ (awaits_first_node verdict before count cuts n1 r1 n2 r2 a k) in
-    let same = sym (advance_append before (count_line count ∷ map cut_line cuts) (map node_line tree)) in
-    (reads_on verdict before (count_line count ∷ map cut_line cuts) (map node_line tree) n r n2 r2 n3 r3 h all.0,
-    subst (λ (s : Standing). Awaits verdict s tree_words) same all.1,
-    subst IsWhole same all.2)
+    let same = sym (advance_append before (count_line count ∷ map cut_line cuts) (map node_line tree)) in (
+      reads_on verdict before (count_line count ∷ map cut_line cuts) (map node_line tree) n r n2 r2 n3 r3 h all.0,
+      subst (λ (s : Standing). Awaits verdict s tree_words) same all.1,
+      subst IsWhole same all.2,
+    )
 
 pub end_read : (verdict : Verdict) (before : Standing) (count : ℕ) (cuts : List Cut) (tree : List TreeNode) (n : ℕ) (r : List ℕ) (n3 : ℕ) (r3 : List ℕ) (n4 : ℕ) (r4 : List ℕ) →
     AwaitsBound verdict before →

@@ -89,10 +89,12 @@ word_of_line line w ns h = record { behind = spelled ns; laid_out = h.spelling; 
 same_line : (line : List ℕ) (v w : Word) (ms ns : List ℤ) → IsLineOf line v ms → IsLineOf line w ns → (v ≡ w) × (ms ≡ ns)
 same_line line v w ms ns h k =
     let words : v ≡ w = same_word line v w (word_of_line line v ms h) (word_of_line line w ns k) in
-    let first : line ≡ word_bytes w ++ spelled ms = subst (λ (x : Word). line ≡ word_bytes x ++ spelled ms) words h.spelling in
-    (words, same_spelling (spelled ns) ms ns
-    (record { spelling = append_cancel_left (word_bytes w) _ _ (sym k.spelling ∙ first); narrow = h.narrow })
-    (record { spelling = refl; narrow = k.narrow }))
+    let first : line ≡ word_bytes w ++ spelled ms = subst (λ (x : Word). line ≡ word_bytes x ++ spelled ms) words h.spelling in (
+      words,
+      same_spelling (spelled ns) ms ns
+          (record { spelling = append_cancel_left (word_bytes w) _ _ (sym k.spelling ∙ first); narrow = h.narrow })
+          (record { spelling = refl; narrow = k.narrow }),
+    )
 
 -- the tests of a line that is not behind the last one
 first_of_tests : (last : Option Word) (verdict : Verdict) (before : Standing) (line : List ℕ) (kind : CertKind) → last ≢ Some Word.End →
@@ -141,8 +143,10 @@ breaks_tree verdict before words lines rest word behind from_feed awaits is_in b
     let has : HasWord (word_bytes word ++ behind) word = has_word rest word behind from_feed begins in
     FailsAtOnce.breaks (word_bytes word ++ behind) from_feed begins.begins
     (first_of_tests before.last verdict before _ CertKind.Tree awaits.more
-    (inr (λ none. none word has (possible verdict before words word awaits is_in),
-    inl ((word, has, tree), refl))))
+    (inr (
+      λ none. none word has (possible verdict before words word awaits is_in),
+      inl ((word, has, tree), refl),
+    )))
     (add-one lines)
 
 -- the tree is not broken by the line's word
@@ -158,9 +162,13 @@ no_numbers verdict before words lines rest word behind from_feed awaits is_in be
     let has : HasWord (word_bytes word ++ behind) word = has_word rest word behind from_feed begins in
     FailsAtOnce.breaks (word_bytes word ++ behind) from_feed begins.begins
     (first_of_tests before.last verdict before _ CertKind.Number awaits.more
-    (inr (λ no. no word has (possible verdict before words word awaits is_in),
-    inr (no_tree verdict before _ word has fine,
-    inl (λ w ns is. none ns (of_word w ns is (same_word _ w word (word_of_line _ w ns is) has)), refl)))))
+    (inr (
+      λ no. no word has (possible verdict before words word awaits is_in),
+      inr (
+        no_tree verdict before _ word has fine,
+        inl (λ w ns is. none ns (of_word w ns is (same_word _ w word (word_of_line _ w ns is) has)), refl),
+      ),
+    )))
     (add-one lines)
   where
     of_word : (w : Word) (ns : List ℤ) → IsLineOf (word_bytes word ++ behind) w ns → w ≡ word → AreNumbersOf word behind ns
@@ -198,9 +206,13 @@ last_tests before line word numbers kind is (inl h) = inl ((line_with word numbe
 last_tests before line word numbers kind is (inr (inl h)) =
     inr (λ many. h.1 (of_same (IsTooMany before) line word numbers is many), inl ((line_with word numbers, is, h.2), h.0))
 last_tests before line word numbers kind is (inr (inr h)) =
-    inr (λ many. h.1 (of_same (IsTooMany before) line word numbers is many),
-    inr (λ few. of_same (λ w ns. AreEnough w ns → ⊥) line word numbers is few h.2,
-    inl ((line_with word numbers, is, h.3), h.0)))
+    inr (
+      λ many. h.1 (of_same (IsTooMany before) line word numbers is many),
+      inr (
+        λ few. of_same (λ w ns. AreEnough w ns → ⊥) line word numbers is few h.2,
+        inl ((line_with word numbers, is, h.3), h.0),
+      ),
+    )
 
 -- the line of numbers that are too many, too few or out of order
 pub numbers_fail : (verdict : Verdict) (before : Standing) (words : List Word) (lines : ℕ) (rest : List ℕ) (word : Word) (numbers : List ℤ) (from_feed : List ℕ)
@@ -211,9 +223,13 @@ numbers_fail verdict before words lines rest word numbers from_feed number kind 
     let has : HasWord (line_bytes (line_with word numbers)) word = word_of_line _ word numbers is in
     FailsAtOnce.breaks (line_bytes (line_with word numbers)) from_feed begins.begins
     (first_of_tests before.last verdict before _ kind awaits.more
-    (inr (λ no. no word has (possible verdict before words word awaits is_in),
-    inr (no_tree verdict before _ word has fine,
-    inr (λ no. no word numbers is, last_tests before _ word numbers kind is fail.1)))))
+    (inr (
+      λ no. no word has (possible verdict before words word awaits is_in),
+      inr (
+        no_tree verdict before _ word has fine,
+        inr (λ no. no word numbers is, last_tests before _ word numbers kind is fail.1),
+      ),
+    )))
     (fail.0 ∙ add-one lines)
 
 -- a line that passes

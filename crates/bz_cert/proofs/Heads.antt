@@ -30,8 +30,12 @@ first_joined text line from_feed rest joined is feed = line_joined text line fro
 pub second_open : (text rest line from_feed : List ℕ) (verdict : Verdict) → text ≡ first_line ++ 10 ∷ rest → rest ≡ line ++ from_feed → line ≡ verdict_line verdict →
     from_feed ≡ [] → IsCertFault text 2 CertKind.End
 second_open text rest line from_feed verdict front joined is none =
-    IsCertFault.ends (inr (inr (inr (verdict, front ∙ ap (λ r. first_line ++ 10 ∷ r)
-    (line_joined rest line from_feed (verdict_line verdict) [] joined is none ∙ append-nil (verdict_line verdict)), refl)))) refl
+    IsCertFault.ends (inr (inr (inr (
+      verdict,
+      front ∙ ap (λ r. first_line ++ 10 ∷ r)
+          (line_joined rest line from_feed (verdict_line verdict) [] joined is none ∙ append-nil (verdict_line verdict)),
+      refl,
+    )))) refl
 
 pub second_joined : (text rest line from_feed behind : List ℕ) (verdict : Verdict) → text ≡ first_line ++ 10 ∷ rest → rest ≡ line ++ from_feed →
     line ≡ verdict_line verdict → from_feed ≡ 10 ∷ behind → text ≡ head_bytes verdict ++ behind

@@ -118,16 +118,17 @@ pub cut_is : (numbers : List ℤ) (alpha mu : List (ℕ × ℤ)) → 4 ≤ lengt
     (numbers ≡ (cut_line (cut_from numbers alpha mu)).numbers) × IsWritableCut (cut_from numbers alpha mu)
 cut_is numbers alpha mu long indexes two sa sm =
     let front : AllByRecursion IsIndex (take 1 numbers) = (all_apart IsIndex (take 1 numbers) (lists_indexes (drop 4 numbers)) indexes).0 in
-    let index : IsIndex (get_or numbers 0 (pos 0)) = first_index numbers long front in
-    (first_four numbers long
-    ∙ ap (λ k. k ∷ get_or numbers 1 (pos 0) ∷ get_or numbers 2 (pos 0) ∷ get_or numbers 3 (pos 0) ∷ drop 4 numbers) (index_is _ index)
-    ∙ ap (λ ns. pos (nat_abs (get_or numbers 0 (pos 0))) ∷ get_or numbers 1 (pos 0) ∷ get_or numbers 2 (pos 0) ∷ get_or numbers 3 (pos 0) ∷ ns)
-    (sym (behind_four numbers long) ∙ two.laid_out),
-    record {
-      block = size_below _ index;
-      alpha = record { sparse = sa; indexes = two.first_indexes; count = two.first_count };
-      mu = record { sparse = sm; indexes = two.second_indexes; count = two.second_count };
-    })
+    let index : IsIndex (get_or numbers 0 (pos 0)) = first_index numbers long front in (
+      first_four numbers long
+          ∙ ap (λ k. k ∷ get_or numbers 1 (pos 0) ∷ get_or numbers 2 (pos 0) ∷ get_or numbers 3 (pos 0) ∷ drop 4 numbers) (index_is _ index)
+          ∙ ap (λ ns. pos (nat_abs (get_or numbers 0 (pos 0))) ∷ get_or numbers 1 (pos 0) ∷ get_or numbers 2 (pos 0) ∷ get_or numbers 3 (pos 0) ∷ ns)
+          (sym (behind_four numbers long) ∙ two.laid_out),
+      record {
+        block = size_below _ index;
+        alpha = record { sparse = sa; indexes = two.first_indexes; count = two.first_count };
+        mu = record { sparse = sm; indexes = two.second_indexes; count = two.second_count };
+      },
+    )
 
 -- where the numbers are those of a cut, two lists stand behind the first four
 pub lists_of_cut : (numbers : List ℤ) → 4 ≤ length numbers → AllByRecursion IsIndex (indexes_of Word.Cut numbers) → (cut : AreOfCut numbers) →

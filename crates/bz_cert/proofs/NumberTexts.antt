@@ -39,8 +39,11 @@ all_also P Q (x ∷ xs) f h = (f x h.0, all_also P Q xs f h.1)
 pub digits_from : (z : ℤ) → IsNarrow z → AllByRecursion (λ b. 45 ≤ b) (signed_decimal z)
 digits_from (pos n) h = all_also (λ b. 48 ≤ b) (λ b. 45 ≤ b) (decimal n) (λ b l. omega arith)
     (digits_all (decimal n) (decimal_is_IsNumeral_wide n (pos_size n h)).0.1)
-digits_from (negsuc n) h = (omega arith, all_also (λ b. 48 ≤ b) (λ b. 45 ≤ b) (decimal (suc n)) (λ b l. omega arith)
-    (digits_all (decimal (suc n)) (decimal_is_IsNumeral_wide (suc n) (neg_size n h)).0.1))
+digits_from (negsuc n) h = (
+  omega arith,
+  all_also (λ b. 48 ≤ b) (λ b. 45 ≤ b) (decimal (suc n)) (λ b l. omega arith)
+      (digits_all (decimal (suc n)) (decimal_is_IsNumeral_wide (suc n) (neg_size n h)).0.1),
+)
 
 -- the first byte of digits
 first_digit : (ds : List ℕ) → 0 < length ds → AllByRecursion (λ b. 48 ≤ b) ds → 48 ≤ get_or ds 0 0
@@ -78,7 +81,7 @@ parses field text r e h (pos n) s =
     let first : 48 ≤ get_or text 0 0 = rw bytes (first_of n size) in
     let value : digits_value 10 text ≡ n = rw bytes is.1 in
     ok_of r _ _ (parse_signed_plain own w128 text r h (λ s. omega arith) (λ s. omega arith))
-        (rw bytes is.0.1, rw bytes is.0.0, rw value (omega (arith, ints, s.narrow)))
+    (rw bytes is.0.1, rw bytes is.0.0, rw value (omega (arith, ints, s.narrow)))
     ∙ ap (λ k. Ok (pos k)) value
 parses field text r e h (negsuc n) s =
     let size : suc n < 10 ^ 64 = neg_size n s.narrow in
@@ -87,7 +90,7 @@ parses field text r e h (negsuc n) s =
     let behind : drop 1 text ≡ decimal (suc n) = ap (drop 1) bytes in
     let value : digits_value 10 (drop 1 text) ≡ suc n = rw behind is.1 in
     ok_of r _ _ (parse_signed_minus own w128 text r h (ap (λ l. get_or l 0 0) bytes))
-        (rw behind is.0.1, rw behind is.0.0, rw value (omega (arith, ints, s.narrow)))
+    (rw behind is.0.1, rw behind is.0.0, rw value (omega (arith, ints, s.narrow)))
     ∙ ap (λ k. Ok (neg_ℤ (pos k))) value
 
 ascii_behind : (b : ℕ) (bs : List ℕ) → b < 128 → IsAscii bs → IsAscii (b ∷ bs)
@@ -202,7 +205,6 @@ begins_there byte (b ∷ bs) = by (b == byte) refl (begins_there byte bs)
     by false e later =
         let one_more : suc (position_or_len (λ x. x == byte) bs) ≡ 1 + position_or_len (λ x. x == byte) bs = omega arith in
         subst (λ (k : ℕ). BeginsWith byte (drop k (b ∷ bs))) one_more later
-
 
 pub shorter_behind : (rest behind field after : List ℕ) → rest ≡ (32 ∷ []) ++ behind → behind ≡ field ++ after → length after < length rest
 shorter_behind rest behind field after r b = rw (r, b) (omega (arith, length-append field after))

@@ -106,7 +106,6 @@ pair_pushed count es i z numbers middle rest h are below = record {
   indexes = below_push (2 ^ 32) es i z h.indexes below;
 }
 
-
 pub empty_now : {X : Type 0} (xs : List X) → (length xs == 0) ≡ true → xs ≡ []
 empty_now [] e = refl
 empty_now (x ∷ xs) e = absurd (omega (arith, eqb-true (length (x ∷ xs)) 0 e))

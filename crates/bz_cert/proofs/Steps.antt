@@ -44,9 +44,11 @@ blocks_step verdict before last parts part block n0 r0 n r n1 r1 is a h line =
     omega (arith, h.2, length-append parts (part ∷ [])) in
     subst (λ (ls : List CertLine). Reads verdict before ls n0 r0 n1 r1 × Awaits verdict (advance_all before ls) (Word.Block ∷ last ∷ [])
     × ((advance_all before ls).blocks ≡ length (parts ++ part ∷ [])))
-    (sym (block_lines_push parts part block is))
-    (R, one_more (λ t. Awaits verdict t (Word.Block ∷ last ∷ [])) before (block_lines 1 parts) _ w,
-    one_more (λ t. t.blocks ≡ length (parts ++ part ∷ [])) before (block_lines 1 parts) _ b)
+    (sym (block_lines_push parts part block is)) (
+      R,
+      one_more (λ t. Awaits verdict t (Word.Block ∷ last ∷ [])) before (block_lines 1 parts) _ w,
+      one_more (λ t. t.blocks ≡ length (parts ++ part ∷ [])) before (block_lines 1 parts) _ b,
+    )
 
 -- where cuts are still to come, a cut has to come
 pub awaits_cut : (verdict : Verdict) (before : Standing) (count cuts : ℕ) → CutsTold verdict before count cuts → cuts < count →
@@ -92,25 +94,27 @@ not_whole verdict before trees nodes told some whole = absurd (omega (arith, tol
 node_passes : (verdict : Verdict) (before : Standing) (trees nodes n : ℕ) (r : List ℕ) (n1 : ℕ) (r1 : List ℕ) (node : TreeNode) → NodesTold verdict before trees nodes →
     0 < trees → nodes ≤ 65534 → IsWritableNode node → ReadsLine n r (node_line node) n1 r1 →
     Passes verdict before (node_line node) × NodesTold verdict (advance before (node_line node)) (trees_behind node trees) (nodes + 1)
-node_passes verdict before trees nodes n r n1 r1 (TreeNode.Split position left right) told some few writable line =
-    (passes verdict before tree_words r Word.Split (pos position ∷ left ∷ right ∷ []) (10 ∷ r1) told.awaits (inl refl) line.begins
-    (not_whole verdict before trees nodes told some) (λ many. absurd (omega (arith, many, told.here, few))) refl tt,
-    record {
-      awaits = record { words_are = refl; more = λ e. absurd (cc) };
-      here = omega (arith, told.here);
-      to_come = omega (arith, told.to_come);
-    })
+node_passes verdict before trees nodes n r n1 r1 (TreeNode.Split position left right) told some few writable line = (
+  passes verdict before tree_words r Word.Split (pos position ∷ left ∷ right ∷ []) (10 ∷ r1) told.awaits (inl refl) line.begins
+      (not_whole verdict before trees nodes told some) (λ many. absurd (omega (arith, many, told.here, few))) refl tt,
+  record {
+    awaits = record { words_are = refl; more = λ e. absurd (cc) };
+    here = omega (arith, told.here);
+    to_come = omega (arith, told.to_come);
+  },
+)
 node_passes verdict before trees nodes n r n1 r1 (TreeNode.Leaf leaf) told some few writable line =
-    let is : AreOfLeaf (node_line (TreeNode.Leaf leaf)).numbers = record { delta = leaf.delta; bound = leaf.bound; lambda = leaf.lambda; numbers_are = refl } in
-    (passes verdict before tree_words r Word.Leaf (node_line (TreeNode.Leaf leaf)).numbers (10 ∷ r1) told.awaits (inr (inl refl)) line.begins
-    (not_whole verdict before trees nodes told some) (λ many. absurd (omega (arith, many, told.here, few)))
-    (record { delta = leaf.delta; bound = leaf.bound; lambda = leaf.lambda; numbers_are = refl })
-    (record { delta = leaf.delta; bound = leaf.bound; lambda = leaf.lambda; numbers_are = refl }, writable.sparse),
-    record {
-      awaits = record { words_are = refl; more = λ e. absurd (cc) };
-      here = omega (arith, told.here);
-      to_come = omega (arith, told.to_come, some);
-    })
+    let is : AreOfLeaf (node_line (TreeNode.Leaf leaf)).numbers = record { delta = leaf.delta; bound = leaf.bound; lambda = leaf.lambda; numbers_are = refl } in (
+      passes verdict before tree_words r Word.Leaf (node_line (TreeNode.Leaf leaf)).numbers (10 ∷ r1) told.awaits (inr (inl refl)) line.begins
+          (not_whole verdict before trees nodes told some) (λ many. absurd (omega (arith, many, told.here, few)))
+          (record { delta = leaf.delta; bound = leaf.bound; lambda = leaf.lambda; numbers_are = refl })
+          (record { delta = leaf.delta; bound = leaf.bound; lambda = leaf.lambda; numbers_are = refl }, writable.sparse),
+      record {
+        awaits = record { words_are = refl; more = λ e. absurd (cc) };
+        here = omega (arith, told.here);
+        to_come = omega (arith, told.to_come, some);
+      },
+    )
 
 pub tree_step : (verdict : Verdict) (before : Standing) (items : List TreeNode) (node : TreeNode) (trees n0 : ℕ) (r0 : List ℕ) (n : ℕ) (r : List ℕ) (n1 : ℕ) (r1 : List ℕ) →
     0 < trees → length items ≤ 65534 → IsWritableNode node →
@@ -120,7 +124,7 @@ pub tree_step : (verdict : Verdict) (before : Standing) (items : List TreeNode) 
     × NodesTold verdict (advance_all before (map node_line (items ++ node ∷ []))) (trees_behind node trees) (length (items ++ node ∷ []))
 tree_step verdict before items node trees n0 r0 n r n1 r1 some few writable h line =
     let both : Passes verdict (advance_all before (map node_line items)) (node_line node)
-        × NodesTold verdict (advance (advance_all before (map node_line items)) (node_line node)) (trees_behind node trees) (length items + 1) =
+    × NodesTold verdict (advance (advance_all before (map node_line items)) (node_line node)) (trees_behind node trees) (length items + 1) =
     node_passes verdict (advance_all before (map node_line items)) trees (length items) n r n1 r1 node h.1 some few writable line in
     let R : Reads verdict before (map node_line items ++ node_line node ∷ []) n0 r0 n1 r1 =
     reads_on verdict before (map node_line items) (node_line node ∷ []) n0 r0 n r n1 r1 h.0
@@ -143,9 +147,11 @@ makes_step trees items (TreeNode.Split position left right) some h [] many = abs
 makes_step trees items (TreeNode.Split position left right) some h (t ∷ []) many = absurd (omega (arith, many, some))
 makes_step trees items (TreeNode.Split position left right) some h (t ∷ u ∷ ts) many =
     let made : (tree : Tree) × (items ++ flat_map preorder (fork position left right t u ∷ ts) ≡ preorder tree) =
-    h (fork position left right t u ∷ ts) (omega (arith, many)) in
-    (made.0, append_assoc items (TreeNode.Split position left right ∷ []) (preorder t ++ (preorder u ++ flat_map preorder ts))
-    ∙ ap (λ ns. items ++ TreeNode.Split position left right ∷ ns) (sym (append_assoc (preorder t) (preorder u) (flat_map preorder ts))) ∙ made.1)
+    h (fork position left right t u ∷ ts) (omega (arith, many)) in (
+      made.0,
+      append_assoc items (TreeNode.Split position left right ∷ []) (preorder t ++ (preorder u ++ flat_map preorder ts))
+          ∙ ap (λ ns. items ++ TreeNode.Split position left right ∷ ns) (sym (append_assoc (preorder t) (preorder u) (flat_map preorder ts))) ∙ made.1,
+    )
 makes_step trees items (TreeNode.Leaf leaf) some h ts many =
     let made : (tree : Tree) × (items ++ flat_map preorder (tip leaf ∷ ts) ≡ preorder tree) = h (tip leaf ∷ ts) (omega (arith, many, some)) in
     (made.0, append_assoc items (TreeNode.Leaf leaf ∷ []) (flat_map preorder ts) ∙ made.1)

@@ -32,7 +32,10 @@ fn finish(at: Place<'_>) -> Result<(), CertStop>
 }
 
 /// The blocks and the value.
-fn read_valued<'a>(alloc: Global, at: Place<'a>) -> Result<(Vec<BlockPart>, i128, Place<'a>), CertStop>
+fn read_valued<'a>(
+    alloc: Global,
+    at: Place<'a>,
+) -> Result<(Vec<BlockPart>, i128, Place<'a>), CertStop>
     ensures { Answers (λ r. ReadsBlocksTo (line_with Word.Value (r.1 ∷ [])) r.0.items at.entry.lines at.entry.rest.now r.2.lines r.2.rest.now) (FailsAtBlocks Word.Value at.entry.lines at.entry.rest.now) result }
 {
     let blocks = read_blocks(alloc, at, Word::Value)?;
@@ -42,7 +45,10 @@ fn read_valued<'a>(alloc: Global, at: Place<'a>) -> Result<(Vec<BlockPart>, i128
 }
 
 /// The blocks and the direction.
-fn read_directed<'a>(alloc: Global, at: Place<'a>) -> Result<(Vec<BlockPart>, Vec<i128>, Place<'a>), CertStop>
+fn read_directed<'a>(
+    alloc: Global,
+    at: Place<'a>,
+) -> Result<(Vec<BlockPart>, Vec<i128>, Place<'a>), CertStop>
     ensures { Answers (λ r. ReadsBlocksTo (line_with Word.Ray r.1.items) r.0.items at.entry.lines at.entry.rest.now r.2.lines r.2.rest.now) (FailsAtBlocks Word.Ray at.entry.lines at.entry.rest.now) result }
 {
     let blocks = read_blocks(alloc, at, Word::Ray)?;
@@ -130,7 +136,11 @@ fn read_unbounded(alloc: Global, at: Place<'_>) -> Result<Certificate, CertStop>
 }
 
 /// The certificate behind the verdict's line.
-pub(crate) fn read_body(alloc: Global, at: Place<'_>, verdict: Verdict) -> Result<Certificate, CertStop>
+pub(crate) fn read_body(
+    alloc: Global,
+    at: Place<'_>,
+    verdict: Verdict,
+) -> Result<Certificate, CertStop>
     ensures { Answers (ReadsBody verdict at.entry.rest.now) (FailsBody verdict at.entry.lines at.entry.rest.now) result }
 {
     match verdict {

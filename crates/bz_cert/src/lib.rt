@@ -1,19 +1,21 @@
 //! Certificates and their texts.
 #![tactic(auto)]
 
+mod body;
 mod faults;
+mod head;
 mod laws;
+mod line_lists;
 mod line_parts;
 mod line_readers;
 mod line_writers;
 mod lists;
 mod places;
-mod body;
-mod head;
-mod line_lists;
 mod reader;
 mod records;
 mod spelling;
+#[cfg(test)]
+mod tests;
 mod words;
 mod writing;
 

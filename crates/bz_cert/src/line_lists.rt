@@ -28,7 +28,11 @@ pub(crate) struct Blocks<'a> {
 }
 
 /// The blocks, up to the line of the word that ends them.
-pub(crate) fn read_blocks<'a>(alloc: Global, at: Place<'a>, last: Word) -> Result<Blocks<'a>, CertStop>
+pub(crate) fn read_blocks<'a>(
+    alloc: Global,
+    at: Place<'a>,
+    last: Word,
+) -> Result<Blocks<'a>, CertStop>
     ensures { Answers (λ r. ReadsBlocks last r.parts.items at.entry.lines at.entry.rest.now r.behind.lines r.behind.rest.now r.last.items r.from_feed.now) (FailsAtBlocks last at.entry.lines at.entry.rest.now) result }
 {
     let mut parts = Vec::new(alloc);
@@ -52,7 +56,11 @@ pub(crate) fn read_blocks<'a>(alloc: Global, at: Place<'a>, last: Word) -> Resul
 }
 
 /// So many cuts.
-pub(crate) fn read_cuts<'a>(alloc: Global, at: Place<'a>, count: u32) -> Result<(Vec<Cut>, Place<'a>), CertStop>
+pub(crate) fn read_cuts<'a>(
+    alloc: Global,
+    at: Place<'a>,
+    count: u32,
+) -> Result<(Vec<Cut>, Place<'a>), CertStop>
     ensures { Answers (λ r. ReadsCuts count r.0.items at.entry.lines at.entry.rest.now r.1.lines r.1.rest.now) (FailsAtCuts count at.entry.lines at.entry.rest.now) result }
 {
     let mut cuts = Vec::new(alloc);
@@ -78,7 +86,10 @@ fn trees_behind(node: &TreeNode, trees: u32) -> u32
 }
 
 /// The nodes of a tree, up to its last leaf.
-pub(crate) fn read_tree<'a>(alloc: Global, at: Place<'a>) -> Result<(Vec<TreeNode>, Place<'a>), CertStop>
+pub(crate) fn read_tree<'a>(
+    alloc: Global,
+    at: Place<'a>,
+) -> Result<(Vec<TreeNode>, Place<'a>), CertStop>
     ensures { Answers (λ r. ReadsTree r.0.items at.entry.lines at.entry.rest.now r.1.lines r.1.rest.now) (FailsAtTree at.entry.lines at.entry.rest.now) result }
 {
     let mut nodes = Vec::new(alloc);

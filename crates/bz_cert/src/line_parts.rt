@@ -19,7 +19,12 @@ use std::alloc::Global;
 const MAX: usize = 65535;
 
 /// The numbers of a line, which stand behind its word.
-pub(crate) fn numbers_of(alloc: Global, line: u32, word: Word, behind: &[u8]) -> Result<Vec<i128>, CertStop>
+pub(crate) fn numbers_of(
+    alloc: Global,
+    line: u32,
+    word: Word,
+    behind: &[u8],
+) -> Result<Vec<i128>, CertStop>
     ensures { Answers (λ numbers. AreNumbersOf word behind.now numbers.items) (Only line CertKind.Number ((numbers : List ℤ) → AreNumbersOf word behind.now numbers → ⊥)) result }
 {
     let numbers = numbers_in(alloc, line, behind)?;
@@ -31,7 +36,11 @@ pub(crate) fn numbers_of(alloc: Global, line: u32, word: Word, behind: &[u8]) ->
 }
 
 /// The denominator and the numerators of a master's line.
-pub(crate) fn master_of(alloc: Global, line: u32, numbers: &[i128]) -> Result<(i128, Vec<i128>), CertStop>
+pub(crate) fn master_of(
+    alloc: Global,
+    line: u32,
+    numbers: &[i128],
+) -> Result<(i128, Vec<i128>), CertStop>
     ensures { Answers (λ master. numbers.now ≡ master.0 ∷ master.1.items) (λ number kind. (before : Standing) → NumbersFail line before Word.Master numbers.now number kind) result }
 {
     let [den, x @ ..] = numbers else {
@@ -42,7 +51,12 @@ pub(crate) fn master_of(alloc: Global, line: u32, numbers: &[i128]) -> Result<(i
 }
 
 /// The part of the block with this number.
-pub(crate) fn block_of(alloc: Global, line: u32, block: u32, numbers: &[i128]) -> Result<BlockPart, CertStop>
+pub(crate) fn block_of(
+    alloc: Global,
+    line: u32,
+    block: u32,
+    numbers: &[i128],
+) -> Result<BlockPart, CertStop>
     requires { AllByRecursion IsIndex (indexes_of Word.Block numbers.now) }
     ensures { Answers (λ part. numbers.now ≡ pos block ∷ part.times ∷ part.y) (λ number kind. (before : Standing) → suc before.blocks ≡ block → NumbersFail line before Word.Block numbers.now number kind) result }
 {
@@ -146,7 +160,13 @@ fn leaf_of(alloc: Global, line: u32, numbers: &[i128]) -> Result<TreeNode, CertS
 }
 
 /// The node of a line behind so many of the tree.
-pub(crate) fn node_of(alloc: Global, line: u32, word: Word, nodes: usize, numbers: &[i128]) -> Result<TreeNode, CertStop>
+pub(crate) fn node_of(
+    alloc: Global,
+    line: u32,
+    word: Word,
+    nodes: usize,
+    numbers: &[i128],
+) -> Result<TreeNode, CertStop>
     requires word { (word ≡ Word.Split) ⊎ (word ≡ Word.Leaf) }
     requires indexes { AllByRecursion IsIndex (indexes_of word numbers.now) }
     ensures { Answers (λ node. (node_line node ≡ line_with word numbers.now) × IsWritableNode node × (nodes ≤ 65534)) (λ number kind. (before : Standing) → before.splits + before.leaves ≡ nodes → NumbersFail line before word numbers.now number kind) result }

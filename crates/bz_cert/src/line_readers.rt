@@ -6,7 +6,9 @@ ghost use Rattle.bz_cert.specs.CertReading.{Answers, FailsAtBlock, FailsAtEnd, F
 ghost use Rattle.bz_cert.specs.CertText.{IsWritableCut, IsWritableNode, cut_line, line_with, node_line};
 
 use crate::faults::{CertKind, CertStop, fault};
-use crate::line_parts::{block_of, count_of, cut_of, master_of, node_of, nothing_of, numbers_of, value_of};
+use crate::line_parts::{
+    block_of, count_of, cut_of, master_of, node_of, nothing_of, numbers_of, value_of,
+};
 use crate::places::{Place, next_line, next_line_of, next_place, next_word};
 use crate::words::Word;
 use bz_cut::Cut;
@@ -15,7 +17,10 @@ use bz_tree::TreeNode;
 use std::alloc::Global;
 
 /// The master's denominator and numerators.
-pub(crate) fn read_master<'a>(alloc: Global, at: Place<'a>) -> Result<(i128, Vec<i128>, Place<'a>), CertStop>
+pub(crate) fn read_master<'a>(
+    alloc: Global,
+    at: Place<'a>,
+) -> Result<(i128, Vec<i128>, Place<'a>), CertStop>
     ensures { Answers (λ r. ReadsLine at.entry.lines at.entry.rest.now (line_with Word.Master (r.0 ∷ r.1.items)) r.2.lines r.2.rest.now) (FailsAwaiting (Word.Master ∷ []) at.entry.lines at.entry.rest.now) result }
 {
     let (numbers, from_feed) = next_line_of(alloc, at, Word::Master)?;
@@ -42,7 +47,12 @@ pub(crate) enum BlockLine<'a> {
 }
 
 /// The line of the block with this number, or the line of the word that ends the blocks.
-pub(crate) fn read_block<'a>(alloc: Global, at: Place<'a>, last: Word, block: u32) -> Result<BlockLine<'a>, CertStop>
+pub(crate) fn read_block<'a>(
+    alloc: Global,
+    at: Place<'a>,
+    last: Word,
+    block: u32,
+) -> Result<BlockLine<'a>, CertStop>
     ensures { Answers (BlockLineIs last block at.entry.lines at.entry.rest.now) (FailsAtBlock last block at.entry.lines at.entry.rest.now) result }
 {
     let (word, numbers, from_feed) = next_line(alloc, at, &[Word::Block, last])?;
@@ -75,7 +85,11 @@ pub(crate) fn read_cut<'a>(alloc: Global, at: Place<'a>) -> Result<(Cut, Place<'
 }
 
 /// The next node, behind so many of a tree that is not whole.
-pub(crate) fn read_node<'a>(alloc: Global, at: Place<'a>, nodes: usize) -> Result<(TreeNode, Place<'a>), CertStop>
+pub(crate) fn read_node<'a>(
+    alloc: Global,
+    at: Place<'a>,
+    nodes: usize,
+) -> Result<(TreeNode, Place<'a>), CertStop>
     ensures { Answers (λ r. ReadsLine at.entry.lines at.entry.rest.now (node_line r.0) r.1.lines r.1.rest.now × IsWritableNode r.0 × (nodes ≤ 65534)) (FailsAtNode nodes at.entry.lines at.entry.rest.now) result }
 {
     let (word, behind, from_feed) = next_word(at, &[Word::Split, Word::Leaf, Word::End])?;
@@ -89,7 +103,11 @@ pub(crate) fn read_node<'a>(alloc: Global, at: Place<'a>, nodes: usize) -> Resul
 }
 
 /// The last line. A line of another word would go on with a tree that is whole.
-pub(crate) fn read_end<'a>(alloc: Global, at: Place<'a>, words: &[Word]) -> Result<Place<'a>, CertStop>
+pub(crate) fn read_end<'a>(
+    alloc: Global,
+    at: Place<'a>,
+    words: &[Word],
+) -> Result<Place<'a>, CertStop>
     ensures { Answers (λ behind. ReadsLine at.entry.lines at.entry.rest.now (line_with Word.End []) behind.lines behind.rest.now) (FailsAtEnd words.now at.entry.lines at.entry.rest.now) result }
 {
     let (word, behind, from_feed) = next_word(at, words)?;

@@ -185,7 +185,11 @@ fn take_count(numbers: &[i128]) -> Option<(u32, &[i128])>
 }
 
 /// The pairs of a list, which stands behind their count, and the numbers behind them.
-pub(crate) fn take_list(alloc: Global, line: u32, numbers: &[i128]) -> Result<(Vec<(u32, i128)>, &[i128]), CertStop>
+pub(crate) fn take_list(
+    alloc: Global,
+    line: u32,
+    numbers: &[i128],
+) -> Result<(Vec<(u32, i128)>, &[i128]), CertStop>
     ensures { Answers (λ r. BeginsWithList r.0.items numbers.now r.1.now) (Only line CertKind.Line ((es : List (ℕ × ℤ)) (rest : List ℤ) → BeginsWithList es numbers.now rest → ⊥)) result }
 {
     let Some((count, behind)) = take_count(numbers) else {

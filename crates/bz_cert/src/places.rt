@@ -47,7 +47,10 @@ fn word_among(field: &[u8], words: &[Word]) -> Option<Word>
 
 /// The first line's word, which is one of these, then what stands behind the word, and what is left from the line's end
 /// on.
-pub(crate) fn next_word<'a>(at: Place<'a>, words: &[Word]) -> Result<(Word, &'a [u8], &'a [u8]), CertStop>
+pub(crate) fn next_word<'a>(
+    at: Place<'a>,
+    words: &[Word],
+) -> Result<(Word, &'a [u8], &'a [u8]), CertStop>
     ensures { Answers (λ r. BeginsWithWord at.entry.rest.now r.0 r.1.now r.2.now × IsIn words.now r.0) (FailsComing words.now at.entry.lines at.entry.rest.now) result }
 {
     if at.rest.is_empty() {
@@ -90,7 +93,11 @@ pub(crate) fn next_place<'a>(at: Place<'a>, from_feed: &'a [u8]) -> Result<Place
 }
 
 /// The numbers of the first line, whose word is this, and what is left from the line's end on.
-pub(crate) fn next_line_of<'a>(alloc: Global, at: Place<'a>, word: Word) -> Result<(Vec<i128>, &'a [u8]), CertStop>
+pub(crate) fn next_line_of<'a>(
+    alloc: Global,
+    at: Place<'a>,
+    word: Word,
+) -> Result<(Vec<i128>, &'a [u8]), CertStop>
     ensures { Answers (λ r. BeginsWithCertLine at.entry.rest.now (line_with word r.0.items) r.1.now) (FailsAwaiting (word ∷ []) at.entry.lines at.entry.rest.now) result }
 {
     let (_, numbers, from_feed) = next_line(alloc, at, &[word])?;

@@ -13,7 +13,7 @@ pub lines-preserved : goal.lines-preserved
 lines-preserved c =
     let n : c.len.result ≡ length c.lines.parts.items = search rules in
     let line : ReadsLine c.lines.behind.lines c.lines.behind.rest.now (line_with Word.Block (pos (c.len.result + 1) ∷ c.in-Block.part.times ∷ c.in-Block.part.y))
-        c.in-Block.next.lines c.in-Block.next.rest.now = subst (BlockLineIs c.args.last (c.len.result + 1) c.lines.behind.lines c.lines.behind.rest.now) c.in-Block.is c.in_ok-part.ensures in
+    c.in-Block.next.lines c.in-Block.next.rest.now = subst (BlockLineIs c.args.last (c.len.result + 1) c.lines.behind.lines c.lines.behind.rest.now) c.in-Block.is c.in_ok-part.ensures in
     record {
       reads = λ verdict before a. rw c.in_ok-push-in-Block.ensures.items
           (blocks_step verdict before c.args.last _ _ _ _ _ _ _ _ _ (omega (arith, n)) a (c.lines.invariant.reads verdict before a) line);

@@ -11,13 +11,19 @@ returns-in_err-alpha c = handed_on _ _ _ _ _ c.from_residual.ensures.1 c.in_err-
     (λ n k h before. (h.0, inr (inl (h.1, λ t. t, λ cut. h.2 cut.alpha cut.mu (lists_of_cut _ c.in-len4-up.len_at_least c.requires cut)))))
 
 pub returns-then-not-are_sparse : goal.returns-then-not-are_sparse
-returns-then-not-are_sparse c = faulted _ _ _ _ c.fault-then-not-are_sparse.ensures (λ before. (refl, inr (inr (refl, λ t. t,
+returns-then-not-are_sparse c = faulted _ _ _ _ c.fault-then-not-are_sparse.ensures (λ before. (
+  refl,
+  inr (inr (
+    refl,
+    λ t. t,
     of_cut _ _ _ c.in-len4-up.len_at_least c.in_ok-alpha.ensures,
     λ order. let both : IsSparse c.in_ok-alpha.alpha.items × IsSparse c.in_ok-alpha.mu.items =
-    sparse_of_cut before _ _ _ c.in-len4-up.len_at_least c.requires c.in_ok-alpha.ensures order in
-    let t : IsTrue c.are_sparse.result = c.are_sparse.ensures.1
-    (subst IsSparse (sym c.as_slice.ensures.value) both.0, subst IsSparse (sym c.as_slice-2.ensures.value) both.1) in
-    absurd (cc (t, c.if-not-are_sparse.true))))))
+        sparse_of_cut before _ _ _ c.in-len4-up.len_at_least c.requires c.in_ok-alpha.ensures order in
+        let t : IsTrue c.are_sparse.result = c.are_sparse.ensures.1
+        (subst IsSparse (sym c.as_slice.ensures.value) both.0, subst IsSparse (sym c.as_slice-2.ensures.value) both.1) in
+        absurd (cc (t, c.if-not-are_sparse.true)),
+  )),
+))
 
 pub returns : goal.returns
 returns c =

@@ -14,6 +14,10 @@ pairs-preserved c =
     }
 
 pub returns-in_default : goal.returns-in_default
-returns-in_default c = faulted _ _ _ _ c.fault.ensures (refl, refl, λ es rest h.
-    c.pairs.invariant.none (suc (c.args.count - (c.pairs.counter + 1))) (omega arith)
-    (no_pair_here _ _ c.in_default.ensures.none) es rest h)
+returns-in_default c = faulted _ _ _ _ c.fault.ensures (
+  refl,
+  refl,
+  λ es rest h.
+      c.pairs.invariant.none (suc (c.args.count - (c.pairs.counter + 1))) (omega arith)
+      (no_pair_here _ _ c.in_default.ensures.none) es rest h,
+)

@@ -13,5 +13,9 @@ returns-in_err-second c = handed_on _ _ _ _ _ c.from_residual-in_err-second.ensu
     (λ n k h. (h.0, h.1, λ es fs two. h.2 fs [] (behind_first _ es fs _ _ c.in_ok-first.ensures two)))
 
 pub returns-else-is_empty : goal.returns-else-is_empty
-returns-else-is_empty c = faulted _ _ _ _ c.fault.ensures (refl, refl, λ es fs two.
-    not_empty _ (search rules) (nothing_behind _ _ _ _ c.in_ok-second.ensures (behind_first _ es fs _ _ c.in_ok-first.ensures two)))
+returns-else-is_empty c = faulted _ _ _ _ c.fault.ensures (
+  refl,
+  refl,
+  λ es fs two.
+      not_empty _ (search rules) (nothing_behind _ _ _ _ c.in_ok-second.ensures (behind_first _ es fs _ _ c.in_ok-first.ensures two)),
+)

@@ -36,9 +36,13 @@ pub numbers-smaller : goal.numbers-smaller
 numbers-smaller c = shorter_behind _ _ _ _ c.in-Some.ensures.found c.cut_at.ensures.joined
 
 pub returns-in_default-number_of : goal.returns-in_default-number_of
-returns-in_default-number_of c = faulted _ _ _ _ c.fault.ensures (refl, refl, c.numbers.invariant.none
-    (none_here _ _ _ _ c.in-Some.ensures.found c.cut_at.ensures.joined c.cut_at.ensures.before c.cut_at.ensures.from_there
-    c.in_default-number_of.ensures.no_other))
+returns-in_default-number_of c = faulted _ _ _ _ c.fault.ensures (
+  refl,
+  refl,
+  c.numbers.invariant.none
+      (none_here _ _ _ _ c.in-Some.ensures.found c.cut_at.ensures.joined c.cut_at.ensures.before c.cut_at.ensures.from_there
+      c.in_default-number_of.ensures.no_other),
+)
 
 pub returns-else-is_empty : goal.returns-else-is_empty
 returns-else-is_empty c = faulted _ _ _ _ c.fault-else-is_empty.ensures
