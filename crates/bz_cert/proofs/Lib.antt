@@ -8,6 +8,7 @@ pub mod ListLemmas
 pub mod NumberTexts
 pub mod Phases
 pub mod Refusals
+pub mod RoundTrip
 pub mod SparseLists
 pub mod Standings
 pub mod Steps
