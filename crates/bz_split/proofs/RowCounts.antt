@@ -1,6 +1,6 @@
 -- The rows of each part are counted in one pass.
-use Rattle.std.proofs.Common.{◌≡◌, ℕ, ◌+◌, ◌<◌, ◌≤◌, ◌==◌, List, length, filter, get_or, Bool, arith}
-use Rattle.std.specs.Prelude.{slice_index_or}
+use Rattle.std.proofs.Common.{◌≡◌, ℕ, ◌+◌, ◌<◌, ◌≤◌, ◌==◌, List, length, filter, Bool, arith}
+use Rattle.std.specs.Prelude.{All, slice_index_or}
 use Rattle.std.proofs.lemmas.Grind.{get_or_default_zero}
 use Rattle.std.proofs.lemmas.List.Sums.{count_by-le-length, length-filter}
 use Rattle.bz_model.specs.declared.records.Row.{Row}
@@ -26,10 +26,7 @@ has_room part counts rest all row h a e =
 at_most_all : (p : Row → Bool) (rows : List Row) → length (filter p rows) ≤ length rows
 at_most_all p rows = omega (arith, length-filter p rows, count_by-le-length p rows)
 
-pub stays_small : (part counts : List ℕ) (rest all : List Row) (row : Row) (h n : ℕ) → AreCounts part counts rest all →
-    h ≡ home_of part row.terms → n ≡ get_or counts h n → n ≤ length all
-stays_small part counts rest all row h n a e r =
-    let l : home_of part row.terms ≤ blocks_of part = home_within part row.terms in
-    let zero_there : get_or counts h n ≡ get_or counts h 0 = get_or_default_zero counts h n (has_room part counts rest all row h a e) in
-    let few : count_at part h all ≤ length all = at_most_all (λ r. home_of part r.terms == h) all in
-    omega (arith, a.each h (omega (arith, l, e)), few, zero_there, r)
+pub stay_small : (part counts : List ℕ) (rest all : List Row) → AreCounts part counts rest all → All (λ n. n ≤ length all) counts
+stay_small part counts rest all a = λ k d l.
+    let few : count_at part k all ≤ length all = at_most_all (λ r. home_of part r.terms == k) all in
+    omega (arith, a.each k (omega (arith, l, a.long)), few, get_or_default_zero counts k d l)
