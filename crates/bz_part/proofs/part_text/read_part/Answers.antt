@@ -4,7 +4,7 @@ use Rattle.bz_lines.specs.NameLists.{is_among}
 use Rattle.bz_model.specs.declared.records.Column.{Column}
 use Rattle.bz_part.specs.Partition.{Assigns, IsGap, HasNoGap, names_of}
 use Rattle.bz_part.proofs.PartitionTheorem.{SameNames, assigned, columns_stop, gap_stops, head_stops, is_partition}
-use Rattle.bz_part.proofs.part_text.read_partition.Goals as goal
+use Rattle.bz_part.proofs.part_text.read_part.Goals as goal
 
 pub returns-in_err-first-clause-reads : goal.returns-in_err-first-clause-reads
 returns-in_err-first-clause-reads c =

@@ -1,7 +1,7 @@
 use Rattle.std.proofs.Common.{◌∙◌, ap, arith, take, map}
 use Rattle.bz_lines.specs.NameLists.{is_among}
 use Rattle.bz_part.proofs.PartLemmas.{among_pushed, names_taken}
-use Rattle.bz_part.proofs.reading.column_names.Goals as goal
+use Rattle.bz_part.proofs.part_text.column_names.Goals as goal
 
 pub loop-column-preserved : goal.loop-column-preserved
 loop-column-preserved c =
