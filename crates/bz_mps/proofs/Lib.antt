@@ -15,6 +15,7 @@ pub mod ModelMade
 pub mod ModelRows
 pub mod ModelSame
 pub mod ModelTexts
+pub mod NameLaws
 pub mod Once
 pub mod PlacedItems
 pub mod Places

@@ -22,6 +22,9 @@ mod model_sides;
 mod model_terms;
 #[cfg(test)]
 mod model_tests;
+mod mps_reading;
+#[cfg(test)]
+mod mps_tests;
 mod placing;
 mod reading;
 mod row_facts;
@@ -30,9 +33,11 @@ mod row_terms;
 mod rows_made;
 mod scaling;
 
+pub use bz_facts::{MpsFault, MpsKind, MpsStop};
 pub use laws::text_has_one_model;
 pub use making::model_of;
 pub use model_laws::{
     models_fit, mps_text_has_one_fault, mps_text_has_one_model, scale_is_least,
 };
+pub use mps_reading::read_mps;
 pub use reading::read_model;
