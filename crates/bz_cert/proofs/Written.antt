@@ -94,13 +94,13 @@ list_writable es h few = record { sparse = h.sparse; indexes = h.indexes; count 
 cuts_writable : (cuts : List Cut) → AllByRecursion IsIndexedCut cuts → AllByRecursion HasShortLists cuts → AllByRecursion IsWritableCut cuts
 cuts_writable [] h few = tt
 cuts_writable (cut ∷ cuts) h few = (
-    record {
-      block = h.0.block;
-      alpha = list_writable cut.alpha h.0.alpha few.0.0;
-      mu = list_writable cut.mu h.0.mu few.0.1;
-    },
-    cuts_writable cuts h.1 few.1,
-  )
+  record {
+    block = h.0.block;
+    alpha = list_writable cut.alpha h.0.alpha few.0.0;
+    mu = list_writable cut.mu h.0.mu few.0.1;
+  },
+  cuts_writable cuts h.1 few.1,
+)
 
 nodes_writable : (nodes : List TreeNode) → AllByRecursion IsIndexedNode nodes → AllByRecursion HasShortList nodes → AllByRecursion IsWritableNode nodes
 nodes_writable [] h few = tt

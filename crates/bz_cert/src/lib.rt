@@ -18,9 +18,13 @@ mod spelling;
 mod tests;
 mod words;
 mod writing;
+#[cfg(test)]
+mod writing_tests;
 
 pub use faults::{CertFault, CertKind, CertStop};
-pub use laws::{text_has_one_certificate, text_has_one_fault, texts_have_no_fault, what_is_written_is_read};
+pub use laws::{
+    text_has_one_certificate, text_has_one_fault, texts_have_no_fault, what_is_written_is_read,
+};
 pub use reader::read_cert;
 pub use records::{Certificate, Verdict};
 pub use writing::write_cert;
