@@ -52,7 +52,7 @@ wide_at k es i d h w =
     ∙ ap has_wide_term (terms_append k (take i es) (get_or es i d ∷ drop (i + 1) es) ∙ ap (λ ts. terms_by k (take i es) ++ ts) (terms_append k (get_or es i d ∷ []) (drop (i + 1) es)))
     ∙ wide_append (terms_by k (take i es)) (terms_by k (get_or es i d ∷ []) ++ terms_by k (drop (i + 1) es))
     ∙ or_right (has_wide_term (terms_by k (take i es))) _
-        (wide_append (terms_by k (get_or es i d ∷ [])) (terms_by k (drop (i + 1) es)) ∙ or_left _ (has_wide_term (terms_by k (drop (i + 1) es))) w)
+    (wide_append (terms_by k (get_or es i d ∷ [])) (terms_by k (drop (i + 1) es)) ∙ or_left _ (has_wide_term (terms_by k (drop (i + 1) es))) w)
 
 rise_below : (low c : ℕ) (es : List Entry) → low ≤ c → RiseFrom (suc c) es → RiseFrom low es
 rise_below low c [] le h = tt

@@ -36,7 +36,11 @@ const SIDES: [(&[u8], Option<i128>, Option<i128>); 6] = [
         Some(-75),
         Some(150),
     ),
-    (b"ROWS\n N C\n G R\nCOLUMNS\n x R 1\nENDATA\n", Some(0), None),
+    (
+        b"ROWS\n N C\n G R\nCOLUMNS\n x R 1\nENDATA\n",
+        Some(0),
+        None,
+    ),
     // The range is wide by itself, and neither side is.
     (
         b"ROWS\n N C\n G R\nCOLUMNS\n x C 1\nRHS\n RHS R -100000001e30\nRANGES\n RNG R 200000003e30\nENDATA\n",
@@ -128,7 +132,10 @@ fn bounds_of_columns(rt: HostRuntime) -> Result<(), Fail> {
             ..
         } = column;
         assert!(rt; *integer == wanted.integer, "at {at}");
-        assert!(rt; parts(*lower) == wanted.lower && parts(*upper) == wanted.upper, "at {at}");
+        assert!(rt;
+            parts(*lower) == wanted.lower && parts(*upper) == wanted.upper,
+            "at {at}"
+        );
     }
     Ok(())
 }
@@ -172,13 +179,17 @@ const FAULTY: [(&[u8], u32, MpsKind); 6] = [
 fn end_tests_fail(rt: HostRuntime) {
     for (at, (text, line, kind)) in FAULTY.into_iter().enumerate() {
         let stop = read(rt.alloc(), text).err();
-        assert!(rt; stop == Some(MpsStop::Fault(MpsFault { line, kind })), "at {at}");
+        assert!(rt;
+            stop == Some(MpsStop::Fault(MpsFault { line, kind })),
+            "at {at}"
+        );
     }
 }
 
 #[test]
 fn the_objective_is_scaled(rt: HostRuntime) -> Result<(), Fail> {
-    let text = b"OBJSENSE MAX\nROWS\n N COST\n N SPARE\nCOLUMNS\n x COST 0.1 SPARE 0.001\n y COST 0.2\n z COST 0\nRHS\n RHS COST 3\nENDATA\n";
+    let text =
+        b"OBJSENSE MAX\nROWS\n N COST\n N SPARE\nCOLUMNS\n x COST 0.1 SPARE 0.001\n y COST 0.2\n z COST 0\nRHS\n RHS COST 3\nENDATA\n";
     let model = read(rt.alloc(), text).ok().ok_or("it is refused")?;
     assert_eq!(rt; model.cost.as_slice(), [(0, 1), (1, 2)].as_slice());
     assert_eq!(rt; (model.constant, model.scale), (-30, 10));
