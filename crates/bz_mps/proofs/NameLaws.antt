@@ -1,7 +1,7 @@
 -- The names of a model's columns.
-use Rattle.std.proofs.Common.{ℕ, suc, ◌+◌, ◌≡◌, refl, sym, ap, ◌∙◌, subst, arith, Bool, true, false, cond, fold, map, List, [], ◌∷◌, ◌++◌}
+use Rattle.std.proofs.Common.{ℕ, ◌+◌, ◌≡◌, refl, sym, ◌∙◌, subst, arith, Bool, true, false, cond, fold, map, List, [], ◌∷◌, ◌++◌}
 use Rattle.std.specs.Prelude.{length, bytes_eq, IfOk, Result, Ok, Err}
-use Rattle.std.specs.List.{AllZip, IsDistinct, enumerate_from, list_any, zip}
+use Rattle.std.specs.List.{AllZip, IsDistinct, enumerate_from, zip}
 use Rattle.std.proofs.lemmas.Cmp.{nat_list_eq_equiv}
 use Rattle.bz_lines.specs.NameLists.{is_among, with_name}
 use Rattle.bz_model.specs.declared.Column.{Column}

@@ -1,4 +1,4 @@
-use Rattle.std.proofs.Common.{ap, rules, sym, ◌∙◌, ◌≡◌, ◌<◌, subst, Option, List, None, false, true}
+use Rattle.std.proofs.Common.{ap, rules, sym, ◌∙◌, ◌≡◌, ◌<◌, subst, List, None, false, true}
 use Rattle.std.specs.Prelude.{length}
 use Rattle.std.specs.Option.{unwrap_or}
 use Rattle.bz_num.specs.declared.Dec.{Dec}
