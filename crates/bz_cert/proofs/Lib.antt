@@ -1,5 +1,6 @@
 pub mod Bodies
 pub mod Bounds
+pub mod CertLines
 pub mod Failing
 pub mod Heads
 pub mod ListIndexes
@@ -10,3 +11,7 @@ pub mod Refusals
 pub mod SparseLists
 pub mod Standings
 pub mod Steps
+pub mod TextFaults
+pub mod TextLines
+pub mod TextsOnce
+pub mod TextsPass

@@ -4,6 +4,7 @@
 mod body;
 mod faults;
 mod head;
+mod laws;
 mod line_lists;
 mod line_parts;
 mod line_readers;
@@ -17,5 +18,6 @@ mod tests;
 mod words;
 
 pub use faults::{CertFault, CertKind, CertStop};
+pub use laws::{text_has_one_certificate, text_has_one_fault, texts_have_no_fault};
 pub use reader::read_cert;
 pub use records::{Certificate, Verdict};

@@ -1,0 +1,22 @@
+//! What is proved of the texts of certificates.
+ghost use Rattle.std.specs.Prelude.{ℕ, List, ◌≡◌};
+ghost use Rattle.bz_cert.specs.CertFaults.{IsCertFault};
+ghost use Rattle.bz_cert.specs.CertText.{IsCertText};
+ghost use Rattle.bz_cert.specs.declared.faults.CertKind.{CertKind};
+ghost use Rattle.bz_cert.specs.declared.records.Certificate.{Certificate};
+
+/// A text is the text of at most one certificate, and a certificate has at most one text. Nothing runs.
+pub fn text_has_one_certificate()
+    ensures certificate { (text : List ℕ) (c d : Certificate) → IsCertText text c → IsCertText text d → c ≡ d }
+    ensures text { (text other : List ℕ) (c : Certificate) → IsCertText text c → IsCertText other c → text ≡ other }
+{}
+
+/// A certificate's text has no fault. Nothing runs.
+pub fn texts_have_no_fault()
+    ensures { (text : List ℕ) (c : Certificate) (number : ℕ) (kind : CertKind) → IsCertText text c → IsCertFault text number kind → ⊥ }
+{}
+
+/// A text has at most one fault. Nothing runs.
+pub fn text_has_one_fault()
+    ensures { (text : List ℕ) (n m : ℕ) (j k : CertKind) → IsCertFault text n j → IsCertFault text m k → (n ≡ m) × (j ≡ k) }
+{}
