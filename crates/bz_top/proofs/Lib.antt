@@ -1,10 +1,3 @@
-pub mod Causes
-pub mod FewRows
-pub mod Fours
-pub mod Laws
-pub mod MemoryEnds
+pub mod Loads
 pub mod PieceTexts
 pub mod Puts
-pub mod Refused
-pub mod Settled
-pub mod Showing
