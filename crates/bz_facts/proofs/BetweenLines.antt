@@ -1,6 +1,6 @@
 -- The reader of facts, between two lines.
-use Rattle.std.proofs.Common.{ℕ, ◌≡◌, ◌≤◌, ◌<◌, ◌^◌, ◌-◌, ◌+◌, ◌∙◌, refl, sym, ap, subst, arith, inl, inr, Bool, true, false, ◌&&◌, not, length, List, [], ◌∷◌, ◌++◌, Option, Some, None, Result, Ok, Err, cond}
-use Rattle.std.specs.List.{last_or}
+use Rattle.std.proofs.Common.{ℕ, ◌≡◌, ◌<◌, ◌^◌, ◌-◌, ◌+◌, ◌∙◌, refl, sym, ap, subst, arith, inl, inr, Bool, true, false, ◌&&◌, length, List, [], ◌∷◌, ◌++◌, Option, Some, None, Ok, Err}
+use Rattle.std.specs.List.{AllByRecursion, last_or}
 use Rattle.std.specs.Bool.{MatchBool}
 use Rattle.std.proofs.lemmas.List.{length-append}
 use Rattle.bz_lines.specs.FirstFault.{NoneFails, first_failing}
@@ -9,7 +9,7 @@ use Rattle.bz_lines.specs.LineReading.{BeginsRefused, NextLine, read_line}
 use Rattle.bz_lines.specs.declared.reader.Line.{Line}
 use Rattle.bz_lines.specs.declared.reader.LineFault.{LineFault}
 use Rattle.bz_lines.specs.declared.reader.LineFault.TheVariants.{NotText as LineNotText, OutOfMemory as NoRoomForLine}
-use Rattle.bz_lines.specs.NumberedLines.{NumberedLine, line_count, numbered_after, numbered_lines}
+use Rattle.bz_lines.specs.NumberedLines.{NumberedLine, line_count}
 use Rattle.bz_lines.proofs.FirstFaults.{none_fails, some_fails}
 use Rattle.bz_facts.specs.declared.faults.MpsKind.{MpsKind}
 use Rattle.bz_facts.specs.declared.faults.MpsKind.TheVariants.{NoEnd, NotText}
@@ -19,22 +19,26 @@ use Rattle.bz_facts.specs.declared.records.Facts.{Facts}
 use Rattle.bz_facts.specs.declared.records.Heading.TheVariants.{EndData}
 use Rattle.bz_facts.specs.declared.tables.Tables.{Tables}
 use Rattle.bz_facts.specs.FactTexts.{AreFacts, HasNoEnd, IsFactsOf, IsLineFault, StopsBy, last_number, lines_read}
-use Rattle.bz_facts.specs.Headings.{Lines, headings, is_end, is_it, word}
+use Rattle.bz_facts.specs.Headings.{Lines, is_end, is_it}
 use Rattle.bz_facts.specs.LineStops.{stop_by}
 use Rattle.bz_facts.specs.LineSteps.{DataLineAdded, HeaderLineAdded, LineAdded, LinePassed, line_tests_by}
 use Rattle.bz_facts.specs.LineTests.{line_tests}
+use Rattle.bz_facts.specs.SoundFacts.{AreSound}
 use Rattle.bz_facts.specs.TableFacts.{AreEmpty, AreTableFacts}
 use Rattle.bz_facts.proofs.FactLaws.{HasPassed, passed-all, passed-end, passed-ended, passed-fails, passed-next, passed-no_end, passed_start}
 use Rattle.bz_facts.proofs.FewLines.{few-columns, few-lines, few-row_names}
 use Rattle.bz_facts.proofs.Held.{AreBegun, Holds}
 use Rattle.bz_facts.proofs.LineAdding.{heading-data, heading-header, last-more}
 use Rattle.bz_facts.proofs.LineHolding.{line-holds}
+use Rattle.bz_facts.proofs.ShortFields.{IsShort, short-behind, short-fields}
+use Rattle.bz_facts.proofs.SoundReading.{IsSound, sound-facts, sound-line, sound-start}
 use Rattle.bz_facts.proofs.SameTests.{tests-same}
 
 pub record IsReading (text : List ℕ) (lines : LineReader) (t : Tables) : Type 0 where
   pub before : Lines
   pub passed : HasPassed text before (to_come lines)
   pub holds : Holds before t
+  pub sound : IsSound t
   pub count : lines_in lines ≡ line_count text
 
 -- Before any line.
@@ -67,6 +71,7 @@ reading-starts text t e = record {
   before = [];
   passed = passed_start text;
   holds = empty_holds t e;
+  sound = sound-start t e;
   count = omega arith;
 }
 
@@ -114,11 +119,16 @@ none_failed : (text : List ℕ) (lines : LineReader) (t : Tables) (l : NumberedL
 none_failed text lines t l r f =
     none_fails (line_tests r.before l) (ap first_failing (sym (tests-same r.before t l r.holds)) ∙ f)
 
-pub next-passes : (text : List ℕ) (lines next : LineReader) (t new : Tables) (l : NumberedLine) → IsReading text lines t → to_come lines ≡ l ∷ to_come next → lines_in next ≡ lines_in lines → first_failing (line_tests_by t l) ≡ None → LineAdded l t new → is_end l ≡ false → IsReading text next new
-next-passes text lines next t new l r e c f a i = record {
+next_short : (text : List ℕ) (lines : LineReader) (t : Tables) (l : NumberedLine) (more : Lines) → length text < 2 ^ 32 - 1 → IsReading text lines t → to_come lines ≡ l ∷ more → AllByRecursion IsShort l.fields
+next_short text lines t l more few r e =
+    short-behind r.before more l (subst (AllByRecursion (λ l. AllByRecursion IsShort l.fields)) (r.passed.are ∙ ap (λ ls. r.before ++ ls) e) (short-fields text (omega (arith, few))))
+
+pub next-passes : (text : List ℕ) (lines next : LineReader) (t new : Tables) (l : NumberedLine) → length text < 2 ^ 32 - 1 → IsReading text lines t → to_come lines ≡ l ∷ to_come next → lines_in next ≡ lines_in lines → first_failing (line_tests_by t l) ≡ None → LineAdded l t new → is_end l ≡ false → IsReading text next new
+next-passes text lines next t new l few r e c f a i = record {
   before = r.before ++ l ∷ [];
   passed = passed-next text r.before (to_come next) l (next_passed text lines t l (to_come next) r e) (none_failed text lines t l r f) i;
   holds = line-holds r.before l t new r.holds f a;
+  sound = sound-line t new l (next_short text lines t l (to_come next) few r e) r.sound f a;
   count = c ∙ r.count;
 }
 
@@ -144,23 +154,25 @@ held_facts seen t end f h a = record {
   bounds = a.bounds ∙ h.bounds.lines;
 }
 
-pub next-ends : (text : List ℕ) (lines : LineReader) (t new : Tables) (l : NumberedLine) (more : Lines) (f : Facts) → IsReading text lines t → to_come lines ≡ l ∷ more → first_failing (line_tests_by t l) ≡ None → LineAdded l t new → is_end l ≡ true → AreTableFacts new l.number f → IsFactsOf text f
-next-ends text lines t new l more f r e p a i k =
+pub next-ends : (text : List ℕ) (lines : LineReader) (t new : Tables) (l : NumberedLine) (more : Lines) (f : Facts) → length text < 2 ^ 32 - 1 → IsReading text lines t → to_come lines ≡ l ∷ more → first_failing (line_tests_by t l) ≡ None → LineAdded l t new → is_end l ≡ true → AreTableFacts new l.number f → IsFactsOf text f × AreSound f
+next-ends text lines t new l more f few r e p a i k =
     let h = next_passed text lines t l more r e in
-    let all : lines_read text ≡ r.before ++ l ∷ [] = passed-end text r.before more l h i in
-    record {
-      lines = passed-all text r.before more l h (none_failed text lines t l r p) i;
-      ended = passed-ended text r.before more l h i;
-      facts = subst (λ ls. AreFacts ls f) (sym all) (held_facts (r.before ++ l ∷ []) new l.number f (line-holds r.before l t new r.holds p a) k);
-      end = k.last ∙ sym (ap (λ ls. last_number (last_or None ls)) all ∙ ap last_number (last-more None r.before l));
-    }
+    let all : lines_read text ≡ r.before ++ l ∷ [] = passed-end text r.before more l h i in (
+      record {
+        lines = passed-all text r.before more l h (none_failed text lines t l r p) i;
+        ended = passed-ended text r.before more l h i;
+        facts = subst (λ ls. AreFacts ls f) (sym all) (held_facts (r.before ++ l ∷ []) new l.number f (line-holds r.before l t new r.holds p a) k);
+        end = k.last ∙ sym (ap (λ ls. last_number (last_or None ls)) all ∙ ap last_number (last-more None r.before l));
+      },
+      sound-facts t new l l.number f (sound-line t new l (next_short text lines t l more few r e) r.sound p a) i p a k,
+    )
 
 -- No line is left.
 
 pub nothing-left : (text : List ℕ) (lines next : LineReader) (t : Tables) → IsReading text lines t → to_come lines ≡ [] → next.rest ≡ [] → lines_in next ≡ lines_in lines → IsLineFault text next.number NoEnd
 nothing-left text lines next t r e n c =
     let number : next.number ≡ line_count text =
-      omega (arith, c, r.count, ap line_count n) in
+    omega (arith, c, r.count, ap line_count n) in
     inr (subst (λ n. HasNoEnd text n NoEnd) (sym number) (passed-no_end text r.before (subst (HasPassed text r.before) e r.passed)))
 
 -- What the reader of lines answers, and what the reader of a line does.

@@ -1,5 +1,5 @@
 -- The first failing test of a list of tests.
-use Rattle.std.proofs.Common.{◌≡◌, refl, sym, ap, ◌∙◌, Bool, true, false, not, List, [], ◌∷◌, ◌++◌, Option, Some, None, cond}
+use Rattle.std.proofs.Common.{◌≡◌, refl, ap, Bool, true, false, not, List, [], ◌∷◌, ◌++◌, Some, None, cond}
 use Rattle.bz_lines.specs.FirstFault.{first_failing}
 use Rattle.bz_lines.proofs.FirstFaults.{first_failing-behind, none_fails}
 

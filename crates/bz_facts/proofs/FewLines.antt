@@ -1,5 +1,5 @@
 -- A text has not many more lines than bytes, and its lines not more names than lines.
-use Rattle.std.proofs.Common.{ℕ, zero, suc, ◌≡◌, ◌≤◌, ◌+◌, ◌<◌, ◌^◌, ◌-◌, arith, ap, refl, Bool, true, false, ◌==◌, List, [], ◌∷◌, ◌++◌, length, map, filter, fold, cond, if◌then◌else◌}
+use Rattle.std.proofs.Common.{ℕ, suc, ◌≡◌, ◌≤◌, ◌+◌, arith, ap, refl, Bool, true, false, ◌==◌, List, [], ◌∷◌, ◌++◌, length, map, filter, fold, cond, if◌then◌else◌}
 use Rattle.std.specs.List.{enumerate_from, slice_split}
 use Rattle.std.specs.Str.Lines.{lines, lines_of_parts}
 use Rattle.std.proofs.lemmas.List.{length-append}
@@ -8,10 +8,9 @@ use Rattle.std.proofs.lemmas.List.Splits.{length-slice_split}
 use Rattle.bz_lines.specs.FieldLists.{field}
 use Rattle.bz_lines.specs.LinesBefore.{gathered}
 use Rattle.bz_lines.specs.NameLists.{is_among, with_name}
-use Rattle.bz_lines.specs.NumberedLines.{NumberedLine, is_kept, numbered_after, numbered_line, numbered_lines}
-use Rattle.bz_facts.specs.declared.records.Heading.{Heading}
+use Rattle.bz_lines.specs.NumberedLines.{is_kept, numbered_after, numbered_line, numbered_lines}
 use Rattle.bz_facts.specs.declared.records.Heading.TheVariants.{Columns, Rows}
-use Rattle.bz_facts.specs.Headings.{Lines, gathered_in, is_in, on_line_in}
+use Rattle.bz_facts.specs.Headings.{Lines, on_line_in}
 use Rattle.bz_facts.specs.LineFacts.{columns, columns_named, row_names}
 use Rattle.bz_facts.specs.Words.{is_marker}
 use Rattle.bz_facts.proofs.TableLemmas.{filter-shorter}

@@ -10,6 +10,10 @@ pub mod LineHolding
 pub mod LineLemmas
 pub mod NumberLemmas
 pub mod SameTests
+pub mod ShortFields
 pub mod SizeLemmas
+pub mod SoundLists
+pub mod SoundReading
+pub mod SoundTables
 pub mod SpellingLaws
 pub mod TableLemmas

@@ -1,15 +1,11 @@
 -- Tables that hold the facts of some lines hold those of one more, once the line is added.
-use Rattle.std.proofs.Common.{ℕ, zero, suc, ◌≡◌, ◌⊎◌, inl, inr, refl, sym, ap, ◌∙◌, subst, arith, Bool, true, false, ◌&&◌, ◌||◌, not, nat_lt, List, [], ◌∷◌, ◌++◌, length, drop, fold, map, Option, Some, None, option_to_list, cond, bytes_eq, append-nil, if◌then◌else◌}
+use Rattle.std.proofs.Common.{ℕ, suc, ◌≡◌, refl, sym, ap, ◌∙◌, subst, arith, Bool, true, false, ◌&&◌, ◌||◌, not, nat_lt, List, [], ◌∷◌, ◌++◌, length, drop, fold, map, Option, Some, None, option_to_list, cond, bytes_eq, append-nil, if◌then◌else◌}
 use Rattle.std.specs.List.{cons_option, last_or, list_any}
-use Rattle.std.specs.Bool.{MatchBool}
 use Rattle.std.proofs.lemmas.List.Folds.{list_any-append}
 use Rattle.std.proofs.lemmas.Bool.{lt-ltb}
-use Rattle.std.proofs.lemmas.List.{length-append}
 use Rattle.bz_lines.specs.FieldLists.{Fields, field}
-use Rattle.bz_lines.specs.FirstFault.{first_failing}
 use Rattle.bz_lines.specs.NameLists.{is_among, place, with_name}
 use Rattle.bz_lines.specs.NumberedLines.{NumberedLine}
-use Rattle.bz_lines.proofs.FirstFaults.{none_fails}
 use Rattle.bz_facts.specs.declared.records.BoundType.{BoundType}
 use Rattle.bz_facts.specs.declared.records.Heading.{Heading}
 use Rattle.bz_facts.specs.declared.records.Heading.TheVariants.{Name, ObjSense, Rows, Columns, Rhs, Ranges, Bounds, EndData}
@@ -20,15 +16,14 @@ use Rattle.bz_facts.specs.declared.tables.GivenTable.{GivenTable}
 use Rattle.bz_facts.specs.declared.tables.Headers.{Headers}
 use Rattle.bz_facts.specs.declared.tables.Rows.{Rows as RowTable}
 use Rattle.bz_facts.specs.declared.tables.Sense.{Sense}
-use Rattle.bz_facts.specs.declared.tables.Tables.{Tables}
-use Rattle.bz_facts.specs.Headings.{Lines, gathered_in, has, heading_on, headings, is_in, is_it, is_same, on_line_in, section, word}
-use Rattle.bz_facts.specs.LineFacts.{begins_column, bound_on, bound_set, bound_sets, bounds, columns, columns_named, entries, entries_on, entry_of, given, given_on, integers, is_open, is_opening, is_own, markers, maximises, pairs, row_names, row_types, sense_on, sense_words, set_of, sets}
-use Rattle.bz_facts.specs.LineSteps.{BoundAdded, ColumnLineAdded, DataLineAdded, EntriesAdded, GivenAdded, HeaderAdded, HeaderLineAdded, LineAdded, MarkerAdded, RowAdded, as_sets, header_tests_by, line_tests_by, with_begun, with_header, with_word}
+use Rattle.bz_facts.specs.Headings.{Lines, gathered_in, has, heading_on, headings, is_in, is_it, is_same, section, word}
+use Rattle.bz_facts.specs.LineFacts.{begins_column, bound_on, bound_set, bound_sets, bounds, columns, columns_named, entries, entries_on, entry_of, given, given_on, integers, is_open, is_opening, is_own, markers, maximises, pairs, row_names, sense_on, sense_words, set_of, sets}
+use Rattle.bz_facts.specs.LineSteps.{BoundAdded, EntriesAdded, GivenAdded, HeaderAdded, MarkerAdded, RowAdded, as_sets, with_begun, with_header, with_word}
 use Rattle.bz_facts.specs.LineTests.{goes_on, is_too_long}
 use Rattle.bz_facts.specs.TableNotes.{first_noted, is_noted}
 use Rattle.bz_facts.specs.Words.{bound_type, heading, is_greater_word, is_marker, row_type}
 use Rattle.bz_facts.proofs.FactLemmas.{columns_more, gathered_in_more, headings_more, section-data, section-header, sense_words_more}
-use Rattle.bz_facts.proofs.Held.{AreBegun, Holds, HoldsBounds, HoldsColumns, HoldsGiven, HoldsHeaders, HoldsRows, HoldsSense, first_of, has_some}
+use Rattle.bz_facts.proofs.Held.{AreBegun, HoldsBounds, HoldsColumns, HoldsGiven, HoldsHeaders, HoldsRows, HoldsSense, first_of, has_some}
 
 -- Lines of one section and of others.
 
@@ -93,7 +88,7 @@ pub headers-added : (seen : Lines) (l : NumberedLine) (old new : Headers) → l.
 headers-added seen l old new e h a =
     let this : heading_on l ≡ Some a.this = heading-header l e ∙ a.word in
     let heads : headings (seen ++ l ∷ []) ≡ headings seen ++ a.this ∷ [] =
-      headings_more seen l ∙ ap (λ o. headings seen ++ cons_option o []) this in
+    headings_more seen l ∙ ap (λ o. headings seen ++ cons_option o []) this in
     record {
       section = a.section ∙ sym (section-header seen l a.this this);
       begun = subst (AreBegun (headings (seen ++ l ∷ []))) (sym a.begun) (subst (λ hs. AreBegun hs (with_begun old.begun a.this)) (sym heads) (begun-more (headings seen) old.begun a.this h.begun));
@@ -124,18 +119,18 @@ or-false false = refl
 pub sense-word : (seen : Lines) (l : NumberedLine) (w : List ℕ) (t : Sense) → sense_on seen l ≡ w ∷ [] → HoldsSense seen t → HoldsSense (seen ++ l ∷ []) (with_word t w)
 sense-word seen l w t e h =
     let words : sense_words (seen ++ l ∷ []) ≡ sense_words seen ++ w ∷ [] =
-      sense_words_more seen l ∙ ap (λ x. sense_words seen ++ x) e in
+    sense_words_more seen l ∙ ap (λ x. sense_words seen ++ x) e in
     record {
       maximise = ap (λ b. b || is_greater_word w) h.maximise
-        ∙ ap (λ b. maximises seen || b) (sym (or-false (is_greater_word w)))
-        ∙ sym (ap (list_any is_greater_word) words ∙ list_any-append is_greater_word (sense_words seen) (w ∷ []));
+          ∙ ap (λ b. maximises seen || b) (sym (or-false (is_greater_word w)))
+          ∙ sym (ap (list_any is_greater_word) words ∙ list_any-append is_greater_word (sense_words seen) (w ∷ []));
       told = some-word (sense_words seen) w ∙ ap has_some (sym words);
     }
 
 pub sense-none : (seen : Lines) (l : NumberedLine) (t : Sense) → sense_on seen l ≡ [] → HoldsSense seen t → HoldsSense (seen ++ l ∷ []) t
 sense-none seen l t e h =
     let words : sense_words (seen ++ l ∷ []) ≡ sense_words seen =
-      sense_words_more seen l ∙ ap (λ x. sense_words seen ++ x) e ∙ append-nil (sense_words seen) in
+    sense_words_more seen l ∙ ap (λ x. sense_words seen ++ x) e ∙ append-nil (sense_words seen) in
     record { maximise = h.maximise ∙ ap (list_any is_greater_word) (sym words); told = h.told ∙ ap has_some (sym words) }
 
 -- a data line of another section
@@ -194,8 +189,8 @@ pub rows-added : (seen : Lines) (l : NumberedLine) (old new : RowTable) → acts
 rows-added seen l old new e h a = record {
   names = a.names ∙ ap (λ ns. ns ++ field 1 l.fields ∷ []) h.names ∙ sym (grows Rows (λ seen l. field 1 l.fields ∷ []) seen l e);
   types = a.types
-    ∙ ap (λ ts. ts ++ option_to_list (row_type (field 0 l.fields))) h.types
-    ∙ sym (grows Rows (λ seen l. option_to_list (row_type (field 0 l.fields))) seen l e);
+      ∙ ap (λ ts. ts ++ option_to_list (row_type (field 0 l.fields))) h.types
+      ∙ sym (grows Rows (λ seen l. option_to_list (row_type (field 0 l.fields))) seen l e);
 }
 
 -- COLUMNS.
@@ -252,21 +247,21 @@ columns-stay seen l t e i h =
 pub columns-marker : (seen : Lines) (l : NumberedLine) (old new : ColumnTable) → l.header ≡ false → acts Columns seen l ≡ true → is_marker l.fields ≡ true → HoldsColumns seen old → MarkerAdded l.fields old new → HoldsColumns (seen ++ l ∷ []) new
 columns-marker seen l old new e a m h k = record {
   names = k.names ∙ h.names ∙ sym (columns-same seen l (grows Columns (λ seen l. if is_marker l.fields then [] else field 0 l.fields ∷ []) seen l a
-    ∙ ap (λ b. columns_named seen ++ cond b [] (field 0 l.fields ∷ [])) m ∙ append-nil (columns_named seen)));
+      ∙ ap (λ b. columns_named seen ++ cond b [] (field 0 l.fields ∷ [])) m ∙ append-nil (columns_named seen)));
   integers = k.integers ∙ h.integers
-    ∙ sym (grows Columns (λ seen l. if begins_column (columns seen) l.fields then is_open seen ∷ [] else []) seen l a
+      ∙ sym (grows Columns (λ seen l. if begins_column (columns seen) l.fields then is_open seen ∷ [] else []) seen l a
       ∙ ap (λ b. integers seen ++ cond (not b && not (is_among (columns seen) (field 0 l.fields))) (is_open seen ∷ []) []) m
       ∙ append-nil (integers seen));
   entries = k.entries ∙ h.entries
-    ∙ sym (grows Columns (λ seen l. entries_on (row_names seen) (columns seen) l.fields) seen l a
+      ∙ sym (grows Columns (λ seen l. entries_on (row_names seen) (columns seen) l.fields) seen l a
       ∙ ap (λ x. entries seen ++ x) (no_entries m)
       ∙ append-nil (entries seen));
   opened = k.opened
-    ∙ sym (ap (λ ws. is_opening (last_or None ws)) (grows Columns (λ seen l. if is_marker l.fields then field 2 l.fields ∷ [] else []) seen l a
+      ∙ sym (ap (λ ws. is_opening (last_or None ws)) (grows Columns (λ seen l. if is_marker l.fields then field 2 l.fields ∷ [] else []) seen l a
       ∙ ap (λ b. markers seen ++ cond b (field 2 l.fields ∷ []) []) m)
       ∙ ap is_opening (last-more None (markers seen) (field 2 l.fields)));
   current = λ i name. ap (λ o. is_noted o name) k.current
-    ∙ sym (goes_on-last seen l name
+      ∙ sym (goes_on-last seen l name
       ∙ ap (λ b. not b && (not (is_marker l.fields) && bytes_eq (field 0 l.fields) name)) e
       ∙ ap (λ b. not b && bytes_eq (field 0 l.fields) name) m);
 }
@@ -277,22 +272,22 @@ columns-marker seen l old new e a m h k = record {
 pub columns-entries : (seen : Lines) (l : NumberedLine) (rows : List (List ℕ)) (old new : ColumnTable) → l.header ≡ false → acts Columns seen l ≡ true → is_marker l.fields ≡ false → rows ≡ row_names seen → HoldsColumns seen old → EntriesAdded (field 0 l.fields) (entries_on rows old.names l.fields) old new → HoldsColumns (seen ++ l ∷ []) new
 columns-entries seen l rows old new e a m r h k = record {
   names = k.names ∙ ap (λ ns. with_name ns (field 0 l.fields)) h.names
-    ∙ sym (columns_more seen l (field 0 l.fields ∷ []) (grows Columns (λ seen l. if is_marker l.fields then [] else field 0 l.fields ∷ []) seen l a
+      ∙ sym (columns_more seen l (field 0 l.fields ∷ []) (grows Columns (λ seen l. if is_marker l.fields then [] else field 0 l.fields ∷ []) seen l a
       ∙ ap (λ b. columns_named seen ++ cond b [] (field 0 l.fields ∷ [])) m));
   integers = k.integers
-    ∙ (λ i. h.integers i ++ cond (is_among (h.names i) (field 0 l.fields)) [] (h.opened i ∷ []))
-    ∙ ap (λ x. integers seen ++ x) (turned (is_among (columns seen) (field 0 l.fields)) (is_open seen))
-    ∙ sym (grows Columns (λ seen l. if begins_column (columns seen) l.fields then is_open seen ∷ [] else []) seen l a
+      ∙ (λ i. h.integers i ++ cond (is_among (h.names i) (field 0 l.fields)) [] (h.opened i ∷ []))
+      ∙ ap (λ x. integers seen ++ x) (turned (is_among (columns seen) (field 0 l.fields)) (is_open seen))
+      ∙ sym (grows Columns (λ seen l. if begins_column (columns seen) l.fields then is_open seen ∷ [] else []) seen l a
       ∙ ap (λ b. integers seen ++ cond (not b && not (is_among (columns seen) (field 0 l.fields))) (is_open seen ∷ []) []) m);
   entries = k.entries
-    ∙ (λ i. h.entries i ++ entries_on (r i) (h.names i) l.fields)
-    ∙ sym (grows Columns (λ seen l. entries_on (row_names seen) (columns seen) l.fields) seen l a);
+      ∙ (λ i. h.entries i ++ entries_on (r i) (h.names i) l.fields)
+      ∙ sym (grows Columns (λ seen l. entries_on (row_names seen) (columns seen) l.fields) seen l a);
   opened = k.opened ∙ h.opened
-    ∙ sym (ap (λ ws. is_opening (last_or None ws)) (grows Columns (λ seen l. if is_marker l.fields then field 2 l.fields ∷ [] else []) seen l a
+      ∙ sym (ap (λ ws. is_opening (last_or None ws)) (grows Columns (λ seen l. if is_marker l.fields then field 2 l.fields ∷ [] else []) seen l a
       ∙ ap (λ b. markers seen ++ cond b (field 2 l.fields ∷ []) []) m
       ∙ append-nil (markers seen)));
   current = λ i name. ap (λ o. is_noted o name) k.current
-    ∙ sym (goes_on-last seen l name
+      ∙ sym (goes_on-last seen l name
       ∙ ap (λ b. not b && (not (is_marker l.fields) && bytes_eq (field 0 l.fields) name)) e
       ∙ ap (λ b. not b && bytes_eq (field 0 l.fields) name) m);
 }
@@ -322,13 +317,13 @@ given-stay h seen l t e k = record {
 pub given-added : (h : Heading) (seen : Lines) (l : NumberedLine) (rows : List (List ℕ)) (old new : GivenTable) → acts h seen l ≡ true → rows ≡ row_names seen → HoldsGiven h seen old → GivenAdded rows l.fields old new → HoldsGiven h (seen ++ l ∷ []) new
 given-added h seen l rows old new e r k a = record {
   set = a.set
-    ∙ ap (λ o. first_noted o (set_of l.fields)) k.set
-    ∙ first-more (sets h seen) (set_of l.fields)
-    ∙ ap first_of (sym (grows h (λ seen l. set_of l.fields ∷ []) seen l e));
+      ∙ ap (λ o. first_noted o (set_of l.fields)) k.set
+      ∙ first-more (sets h seen) (set_of l.fields)
+      ∙ ap first_of (sym (grows h (λ seen l. set_of l.fields ∷ []) seen l e));
   givens = a.givens
-    ∙ (λ i. k.givens i ++ given_on (r i) (as_sets (k.set i)) l.fields)
-    ∙ ap (λ x. given h seen ++ x) (given-own (row_names seen) (sets h seen) l.fields)
-    ∙ sym (grows h (λ seen l. given_on (row_names seen) (sets h seen) l.fields) seen l e);
+      ∙ (λ i. k.givens i ++ given_on (r i) (as_sets (k.set i)) l.fields)
+      ∙ ap (λ x. given h seen ++ x) (given-own (row_names seen) (sets h seen) l.fields)
+      ∙ sym (grows h (λ seen l. given_on (row_names seen) (sets h seen) l.fields) seen l e);
 }
   where
     given-own : (rows sets : List (List ℕ)) (fs : Fields) → given_on rows (as_sets (first_of sets)) fs ≡ given_on rows sets fs
@@ -341,19 +336,19 @@ pub bounds-stay : (seen : Lines) (l : NumberedLine) (t : BoundTable) → acts Bo
 bounds-stay seen l t e k = record {
   set = k.set ∙ ap first_of (sym (stays Bounds (λ seen l. bound_set (bound_type (field 0 l.fields)) l.fields ∷ []) seen l e));
   lines = k.lines
-    ∙ sym (stays Bounds (λ seen l. bound_on (columns seen) (bound_sets seen) l.number (bound_type (field 0 l.fields)) l.fields) seen l e);
+      ∙ sym (stays Bounds (λ seen l. bound_on (columns seen) (bound_sets seen) l.number (bound_type (field 0 l.fields)) l.fields) seen l e);
 }
 
 pub bounds-added : (seen : Lines) (l : NumberedLine) (names : List (List ℕ)) (old new : BoundTable) → acts Bounds seen l ≡ true → names ≡ columns seen → HoldsBounds seen old → BoundAdded names l.number l.fields old new → HoldsBounds (seen ++ l ∷ []) new
 bounds-added seen l names old new e r k a = record {
   set = a.set
-    ∙ ap (λ o. first_noted o (bound_set (bound_type (field 0 l.fields)) l.fields)) k.set
-    ∙ first-more (bound_sets seen) (bound_set (bound_type (field 0 l.fields)) l.fields)
-    ∙ ap first_of (sym (grows Bounds (λ seen l. bound_set (bound_type (field 0 l.fields)) l.fields ∷ []) seen l e));
+      ∙ ap (λ o. first_noted o (bound_set (bound_type (field 0 l.fields)) l.fields)) k.set
+      ∙ first-more (bound_sets seen) (bound_set (bound_type (field 0 l.fields)) l.fields)
+      ∙ ap first_of (sym (grows Bounds (λ seen l. bound_set (bound_type (field 0 l.fields)) l.fields ∷ []) seen l e));
   lines = a.lines
-    ∙ (λ i. k.lines i ++ bound_on (r i) (as_sets (k.set i)) l.number (bound_type (field 0 l.fields)) l.fields)
-    ∙ ap (λ x. bounds seen ++ x) (bound-own (bound_type (field 0 l.fields)) (columns seen) (bound_sets seen) l.number l.fields)
-    ∙ sym (grows Bounds (λ seen l. bound_on (columns seen) (bound_sets seen) l.number (bound_type (field 0 l.fields)) l.fields) seen l e);
+      ∙ (λ i. k.lines i ++ bound_on (r i) (as_sets (k.set i)) l.number (bound_type (field 0 l.fields)) l.fields)
+      ∙ ap (λ x. bounds seen ++ x) (bound-own (bound_type (field 0 l.fields)) (columns seen) (bound_sets seen) l.number l.fields)
+      ∙ sym (grows Bounds (λ seen l. bound_on (columns seen) (bound_sets seen) l.number (bound_type (field 0 l.fields)) l.fields) seen l e);
 }
   where
     bound-own : (o : Option BoundType) (names sets : List (List ℕ)) (line : ℕ) (fs : Fields) → bound_on names (as_sets (first_of sets)) line o fs ≡ bound_on names sets line o fs

@@ -1,5 +1,5 @@
 -- A line that passes its tests is added to the tables, which then hold the facts with its own.
-use Rattle.std.proofs.Common.{ℕ, ◌≡◌, refl, sym, ap, ◌∙◌, subst, Bool, true, false, not, List, [], ◌∷◌, ◌++◌, length, Option, Some, None, cond}
+use Rattle.std.proofs.Common.{◌≡◌, refl, sym, ap, ◌∙◌, subst, Bool, true, false, not, [], ◌∷◌, ◌++◌, length, Option, Some, None, cond}
 use Rattle.std.specs.Bool.{MatchBool}
 use Rattle.bz_lines.specs.FieldLists.{field}
 use Rattle.bz_lines.specs.FirstFault.{NoneFails, first_failing}
@@ -8,22 +8,21 @@ use Rattle.bz_lines.proofs.FirstFaults.{none_fails}
 use Rattle.bz_facts.specs.declared.faults.MpsKind.TheVariants.{NotText}
 use Rattle.bz_facts.specs.declared.records.Heading.{Heading}
 use Rattle.bz_facts.specs.declared.records.Heading.TheVariants.{Name, ObjSense, Rows, Columns, Rhs, Ranges, Bounds, EndData}
-use Rattle.bz_facts.specs.declared.tables.Columns.{Columns as ColumnTable}
 use Rattle.bz_facts.specs.declared.tables.Tables.{Tables}
-use Rattle.bz_facts.specs.Headings.{Lines, is_in, is_it, section}
+use Rattle.bz_facts.specs.Headings.{Lines, is_it, section}
 use Rattle.bz_facts.specs.LineFacts.{entries_on}
-use Rattle.bz_facts.specs.LineSteps.{ColumnLineAdded, DataLineAdded, EntriesAdded, HeaderLineAdded, LineAdded, MarkerAdded, data_tests_by, header_tests_by, line_tests_by}
+use Rattle.bz_facts.specs.LineSteps.{DataLineAdded, EntriesAdded, HeaderLineAdded, LineAdded, MarkerAdded, data_tests_by, header_tests_by, line_tests_by}
 use Rattle.bz_facts.specs.LineTests.{is_too_long}
 use Rattle.bz_facts.specs.Words.{heading, is_marker}
 use Rattle.bz_facts.proofs.Held.{Holds, HoldsColumns}
-use Rattle.bz_facts.proofs.LineAdding.{acts, acts-data, acts-header, bounds-added, bounds-stay, columns-entries, columns-header, columns-marker, columns-stay, given-added, given-stay, headers-added, headers-stay, rows-added, rows-stay, sense-header, sense-stays, sense-told}
+use Rattle.bz_facts.proofs.LineAdding.{acts-data, acts-header, bounds-added, bounds-stay, columns-entries, columns-header, columns-marker, columns-stay, given-added, given-stay, headers-added, headers-stay, rows-added, rows-stay, sense-header, sense-stays, sense-told}
 
 -- a header that passes isn't too long
 not_long : (t : Tables) (l : NumberedLine) (h : Heading) → l.header ≡ true → heading (field 0 l.fields) ≡ Some h → first_failing (line_tests_by t l) ≡ None → is_too_long (Some h) (length l.fields) ≡ false
 not_long t l h e w f =
     let tests = header_tests_by t.headers t.sense t.columns.open t.rows.types l.fields in
     let pass : NoneFails ((not l.text, NotText) ∷ tests) =
-      none_fails ((not l.text, NotText) ∷ tests) (ap (λ b. first_failing ((not l.text, NotText) ∷ cond b tests (data_tests_by t.headers.section t l.fields))) (sym e) ∙ f) in
+    none_fails ((not l.text, NotText) ∷ tests) (ap (λ b. first_failing ((not l.text, NotText) ∷ cond b tests (data_tests_by t.headers.section t l.fields))) (sym e) ∙ f) in
     ap (λ o. is_too_long o (length l.fields)) (sym w) ∙ pass.1.1.1.0
 
 header_holds : (seen : Lines) (l : NumberedLine) (old new : Tables) → l.header ≡ true → Holds seen old → first_failing (line_tests_by old l) ≡ None → HeaderLineAdded l.fields old new → Holds (seen ++ l ∷ []) new

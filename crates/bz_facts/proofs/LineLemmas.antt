@@ -1,5 +1,5 @@
 -- Lines of entries and of bounds, by their parts.
-use Rattle.std.proofs.Common.{ℕ, ◌≡◌, refl, sym, ap, ◌∙◌, subst, Bool, true, false, ◌==◌, ◌||◌, ◌&&◌, not, nat_le, nat_lt, ◌+◌, List, [], ◌∷◌, ◌++◌, length, drop, map, flat_map, Option, Some, None, Result, Ok, Err, cond}
+use Rattle.std.proofs.Common.{ℕ, ◌≡◌, refl, sym, ap, ◌∙◌, subst, true, false, ◌==◌, ◌||◌, ◌&&◌, not, nat_le, nat_lt, ◌+◌, List, [], ◌∷◌, ◌++◌, length, drop, map, flat_map, None, Result, Ok, Err, cond}
 use Rattle.bz_lines.specs.FieldLists.{Fields as FieldList, field}
 use Rattle.bz_lines.specs.FirstFault.{first_failing}
 use Rattle.bz_lines.specs.NameLists.{is_among, place}
@@ -8,8 +8,6 @@ use Rattle.bz_facts.specs.declared.faults.MpsKind.TheVariants.{DoubleEntry, Fiel
 use Rattle.bz_facts.specs.declared.pairs.Pairs.{Pairs}
 use Rattle.bz_facts.specs.declared.records.BoundLine.{BoundLine}
 use Rattle.bz_facts.specs.declared.records.BoundType.{BoundType}
-use Rattle.bz_facts.specs.declared.records.Entry.{Entry}
-use Rattle.bz_facts.specs.declared.records.Given.{Given}
 use Rattle.bz_facts.specs.declared.refusals.Refusal.{Refusal}
 use Rattle.bz_facts.specs.declared.refusals.Refusal.TheVariants.{Fault, OutOfMemory}
 use Rattle.bz_facts.specs.declared.tables.Columns.{Columns as ColumnTable}
@@ -45,9 +43,9 @@ last_tests rows t fs m l s p =
     let last : Tests = (repeats is_same_entry t.entries more, DoubleEntry) ∷ (is_past_limit t.names t.entries fs more, Limit) ∷ [] in
     let front = flat_map (pair_tests rows) (pairs (drop 1 fs)) in
     sym (passes-on (not ((length fs == 3) || (length fs == 5))) Fields ((is_among t.names (field 0 fs) && not (is_noted t.current (field 0 fs)), SplitColumn) ∷ front ++ last) (ap not l)
-      ∙ passes-on (is_among t.names (field 0 fs) && not (is_noted t.current (field 0 fs))) SplitColumn (front ++ last) s
-      ∙ front-passes front last p
-      ∙ ap (λ b. first_failing ((repeats is_same_entry t.entries more, DoubleEntry) ∷ (((not b && not (is_among t.names (field 0 fs))) && nat_le 2048 (length t.names)) || nat_lt 65536 (length t.entries + length more), Limit) ∷ [])) m)
+    ∙ passes-on (is_among t.names (field 0 fs) && not (is_noted t.current (field 0 fs))) SplitColumn (front ++ last) s
+    ∙ front-passes front last p
+    ∙ ap (λ b. first_failing ((repeats is_same_entry t.entries more, DoubleEntry) ∷ (((not b && not (is_among t.names (field 0 fs))) && nat_le 2048 (length t.names)) || nat_lt 65536 (length t.entries + length more), Limit) ∷ [])) m)
 
 pub entry-line : (rows : List (List ℕ)) (t new : ColumnTable) (fs : FieldList) (p : Pairs) (r : Result (Unit {0}) Refusal) → is_marker fs ≡ false → ((length fs == 3) || (length fs == 5)) ≡ true → (is_among t.names (field 0 fs) && not (is_noted t.current (field 0 fs))) ≡ false → first_failing (flat_map (pair_tests rows) (pairs (drop 1 fs))) ≡ None → pairs_read p ≡ map (given_of rows) (pairs (drop 1 fs)) → PassesLine (last_entry_tests t (field 0 fs) (map (entry_in (place t.names (field 0 fs))) (pairs_read p))) (λ _. EntriesAdded (field 0 fs) (map (entry_in (place t.names (field 0 fs))) (pairs_read p)) t new) r → PassesLine (entry_tests_by rows t fs) (λ _. EntriesAdded (field 0 fs) (entries_on rows t.names fs) t new) r
 entry-line rows t new fs p r m l s f e h =

@@ -1,5 +1,5 @@
 -- What a field spells, by its tests.
-use Rattle.std.proofs.Common.{ℕ, ◌^◌, ◌<◌, ◌≡◌, refl, sym, ap, subst, List, [], ◌∷◌, length, Option, Some, None, Ok, Err}
+use Rattle.std.proofs.Common.{ℕ, ◌^◌, ◌<◌, ◌≡◌, sym, ap, List, [], ◌∷◌, length, Option, Some, None}
 use Rattle.bz_lines.specs.FirstFault.{first_failing}
 use Rattle.bz_num.specs.declared.decimal.Dec.{Dec}
 use Rattle.bz_num.specs.Decimals.{IsDecimal, IsDecimalText, IsTooWide, IsWithinLimits}

@@ -1,5 +1,5 @@
 -- The tests of a line by the lines before it are those by their tables.
-use Rattle.std.proofs.Common.{ℕ, suc, ◌≡◌, refl, sym, ap, ◌∙◌, Bool, true, false, ◌==◌, ◌&&◌, ◌||◌, not, nat_le, nat_lt, is_none, List, [], ◌∷◌, ◌++◌, length, drop, flat_map, map, Option, Some, None, cond, ne_eqb, arith, if◌then◌else◌}
+use Rattle.std.proofs.Common.{ℕ, suc, ◌≡◌, refl, sym, ap, ◌∙◌, Bool, true, false, ◌==◌, ◌&&◌, ◌||◌, not, nat_le, is_none, List, [], ◌∷◌, ◌++◌, length, drop, flat_map, map, Option, Some, None, cond, ne_eqb, arith, if◌then◌else◌}
 use Rattle.std.specs.List.{list_any}
 use Rattle.bz_lines.specs.FieldLists.{Fields as FieldList, field}
 use Rattle.bz_lines.specs.NameLists.{is_among}
@@ -12,15 +12,14 @@ use Rattle.bz_facts.specs.declared.records.Heading.TheVariants.{Name, ObjSense, 
 use Rattle.bz_facts.specs.declared.tables.Begun.{Begun}
 use Rattle.bz_facts.specs.declared.tables.Tables.{Tables}
 use Rattle.bz_facts.specs.declared.tables.BoundTable.{BoundTable}
-use Rattle.bz_facts.specs.declared.tables.Columns.{Columns as ColumnTable}
 use Rattle.bz_facts.specs.declared.tables.GivenTable.{GivenTable}
 use Rattle.bz_facts.specs.Headings.{Lines, headings, is_in, is_it, section}
-use Rattle.bz_facts.specs.LineFacts.{behind_set, bound_set, bound_sets, columns, entries_on, given_of, given_on, is_own, pairs, row_names, sense_words, set_of, sets}
-use Rattle.bz_facts.specs.LineSteps.{as_sets, bound_tests_by, column_tests_by, data_tests_by, given_tests_by, header_tests_by, is_misplaced_by, is_out_of_order_by, is_waiting, line_tests_by}
-use Rattle.bz_facts.specs.LineTests.{Tests as TestList, bound_tests, bound_tests_of, column_tests, given_tests, has_wrong_sense, header_tests, is_bound_length, is_free, is_misplaced, is_out_of_order, is_past_limit, is_same_entry, is_too_long, line_tests, marker_tests, own_bound_tests, own_given_tests, pair_tests, repeats, row_tests, section_tests, sense_tests, waits_for_sense}
+use Rattle.bz_facts.specs.LineFacts.{behind_set, bound_sets, columns, entries_on, given_of, is_own, pairs, row_names, sense_words, set_of, sets}
+use Rattle.bz_facts.specs.LineSteps.{as_sets, bound_tests_by, column_tests_by, data_tests_by, given_tests_by, header_tests_by, is_out_of_order_by, is_waiting, line_tests_by}
+use Rattle.bz_facts.specs.LineTests.{Tests as TestList, bound_tests, bound_tests_of, column_tests, given_tests, has_wrong_sense, header_tests, is_free, is_out_of_order, is_past_limit, is_same_entry, is_too_long, line_tests, marker_tests, own_given_tests, pair_tests, repeats, row_tests, section_tests, sense_tests, waits_for_sense}
 use Rattle.bz_facts.specs.declared.records.BoundType.{BoundType}
 use Rattle.bz_facts.specs.Words.{bound_type, heading, is_left_out, is_marker}
-use Rattle.bz_facts.proofs.Held.{AreBegun, Holds, HoldsBounds, HoldsColumns, HoldsGiven, HoldsHeaders, HoldsSense, first_of, has_some}
+use Rattle.bz_facts.proofs.Held.{AreBegun, Holds, HoldsBounds, HoldsGiven, first_of, has_some}
 use Rattle.bz_facts.proofs.LineAdding.{own-first}
 
 -- Headers.

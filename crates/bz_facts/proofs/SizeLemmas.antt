@@ -1,9 +1,9 @@
 -- Numbers of size 10^20 or more.
-use Rattle.std.proofs.Common.{ℕ, ℤ, pos, ◌+◌, ◌-◌, ◌*◌, ◌^◌, ◌<◌, ◌≤◌, ◌≡◌, ◌*ℤ◌, ◌+ℤ◌, refl, sym, ap, ◌∙◌, subst, arith, Bool, true, false, nat_le, nat_lt}
+use Rattle.std.proofs.Common.{ℕ, pos, ◌+◌, ◌*◌, ◌^◌, ◌<◌, ◌≤◌, ◌≡◌, ◌+ℤ◌, refl, sym, ap, ◌∙◌, subst, arith, Bool, true, false, nat_le, nat_lt}
 use Rattle.std.specs.Int.RustNames.{unsigned_abs}
 use Rattle.std.proofs.Math.IntN.{*ℤ_comm}
 use Rattle.std.proofs.Math.Nat.{mul-le-mul_right, mul-lt-mul_of_pos_right, pow-le-pow_right}
-use Rattle.std.proofs.lemmas.Bool.{le-leb, leb-true, leb-false, lt-leb, lt-ltb, ltb-true, ltb-false}
+use Rattle.std.proofs.lemmas.Bool.{le-leb, leb-true, leb-false, lt-leb, ltb-true, ltb-false}
 use Rattle.std.proofs.lemmas.Nat.{pow-add}
 use Rattle.bz_num.specs.declared.decimal.Dec.{Dec}
 use Rattle.bz_num.proofs.Divisors.{size-product}
@@ -51,6 +51,7 @@ between n s m e = by (nat_le (10 ^ m) n) refl
   where
     whole : 10 ^ 50 ≡ 10 ^ m * 10 ^ s
     whole = ap (λ k. 10 ^ k) (sym e) ∙ pow-add 10 m s
+
     by : (b : Bool) → nat_le (10 ^ m) n ≡ b → b ≡ nat_le (10 ^ 50) (10 ^ s * n)
     by true f =
         let at_least : 10 ^ m ≤ n = leb-true (10 ^ m) n f in

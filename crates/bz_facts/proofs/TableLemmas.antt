@@ -1,5 +1,5 @@
 -- What the tables hold beside the facts.
-use Rattle.std.proofs.Common.{ℕ, suc, ◌+◌, not, ◌≡◌, ◌≤◌, ◌∙◌, ap, refl, arith, Bool, true, false, ◌||◌, List, [], ◌∷◌, length, filter, map, cond}
+use Rattle.std.proofs.Common.{suc, ◌+◌, not, ◌≡◌, ◌≤◌, ◌∙◌, ap, refl, arith, Bool, true, false, ◌||◌, List, [], ◌∷◌, length, filter, map, cond}
 use Rattle.std.specs.List.{list_any, position_or_len}
 
 -- a test of places, on the items that have them

@@ -1,5 +1,5 @@
 -- What a reader of a line, or of a part of it, answers by its tests.
-use Rattle.std.specs.Prelude.{◌≡◌, Option, Some, None, Result, Ok, Err}
+use Rattle.std.specs.Prelude.{◌≡◌, Some, None, Result, Ok, Err}
 use Rattle.bz_lines.specs.FirstFault.{first_failing}
 use Rattle.bz_facts.specs.declared.faults.MpsKind.{MpsKind}
 use Rattle.bz_facts.specs.declared.refusals.Refusal.{Refusal}

@@ -24,7 +24,7 @@ use Rattle.bz_facts.specs.declared.tables.Rows.{Rows as RowTable}
 use Rattle.bz_facts.specs.declared.tables.Sense.{Sense as SenseTable}
 use Rattle.bz_facts.specs.declared.tables.Tables.{Tables}
 use Rattle.bz_facts.specs.Headings.{is_end, is_it}
-use Rattle.bz_facts.specs.LineFacts.{behind_set, begins_column, bound_on, bound_set, entries_on, given_on, is_own, pairs, set_of}
+use Rattle.bz_facts.specs.LineFacts.{behind_set, bound_on, bound_set, entries_on, given_on, is_own, pairs, set_of}
 use Rattle.bz_facts.specs.LineTests.{Tests as TestList, bound_tests_of, has_wrong_sense, is_free, is_past_limit, is_same_entry, is_too_long, marker_tests, own_given_tests, pair_tests, repeats, row_tests, sense_tests}
 use Rattle.bz_facts.specs.TableNotes.{first_noted, is_noted}
 use Rattle.bz_facts.specs.Words.{bound_type, heading, is_greater_word, is_left_out, is_marker, opening, row_type}

@@ -1,10 +1,11 @@
 //! The reader of the facts of a model's text.
-ghost use Rattle.std.specs.Prelude.{◌≡◌, ◌<◌, ◌-◌, ◌^◌, [], None, false, length, map, MatchResult};
+ghost use Rattle.std.specs.Prelude.{◌≡◌, ◌<◌, ◌-◌, ◌^◌, [], None, false, length, map, IfOk, MatchResult};
 ghost use Rattle.bz_lines.specs.LineReading.{read_line};
 ghost use Rattle.bz_facts.specs.declared.records.Facts.{Facts};
 ghost use Rattle.bz_facts.specs.FactTexts.{IsFactsOf, IsLineFault, StopsBy};
 ghost use Rattle.bz_facts.specs.LineAnswers.{PassesLine};
 ghost use Rattle.bz_facts.specs.LineSteps.{DataLineAdded, HeaderLineAdded, LineAdded, LinePassed, data_tests_by, header_tests_by, line_tests_by};
+ghost use Rattle.bz_facts.specs.SoundFacts.{AreSound};
 ghost use Rattle.bz_facts.specs.TableFacts.{AreTableFacts, AreEmpty, stop_at as stop_on};
 
 use crate::bound_lines::on_bound_line;
@@ -92,11 +93,7 @@ fn on_header_line<'a>(tables: &mut Tables<'a>, fields: &[&'a [u8]]) -> Result<()
 }
 
 /// Reads a data line, whose number is given.
-fn on_data_line<'a>(
-    tables: &mut Tables<'a>,
-    line: u32,
-    fields: &[&'a [u8]],
-) -> Result<(), Refusal>
+fn on_data_line<'a>(tables: &mut Tables<'a>, line: u32, fields: &[&'a [u8]]) -> Result<(), Refusal>
     requires rows { length tables.old.rows.names < 2 ^ 32 }
     requires columns { length tables.old.columns.names < 2 ^ 32 }
     ensures { let fs = map (λ f. f.now) fields.now in PassesLine (data_tests_by tables.old.headers.section tables.old fs) (λ _. DataLineAdded tables.old.headers.section line fs tables.old tables.new) result }
@@ -199,14 +196,10 @@ fn pass_line<'a>(tables: &mut Tables<'a>, line: &Line<'a>) -> Result<bool, MpsSt
 }
 
 /// Reads a text's lines into the tables, and gives the line of ENDATA.
-fn read_lines<'a>(
-    alloc: Global,
-    text: &'a [u8],
-    tables: &mut Tables<'a>,
-) -> Result<u32, MpsStop>
+fn read_lines<'a>(alloc: Global, text: &'a [u8], tables: &mut Tables<'a>) -> Result<u32, MpsStop>
     requires few { length text.now < 2 ^ 32 - 1 }
     requires empty { AreEmpty tables.old }
-    ensures { MatchResult result (λ end. (f : Facts) → AreTableFacts tables.new end f → IsFactsOf text.now f) (StopsBy (IsLineFault text.now)) }
+    ensures { MatchResult result (λ end. (f : Facts) → AreTableFacts tables.new end f → IsFactsOf text.now f × AreSound f) (StopsBy (IsLineFault text.now)) }
 {
     let mut lines = Lines::new(text);
     'lines: while let Some(line) = lines.next(alloc)? {
@@ -222,10 +215,12 @@ fn read_lines<'a>(
 }
 
 /// The facts that the lines of a model's text state. `Fault` is exactly that of a text one of whose lines fails, or that
-/// ends before ENDATA: the first such line and its first fault, or the number of all lines. Each line is passed once.
+/// ends before ENDATA: the first such line and its first fault, or the number of all lines. Facts fit one another and the
+/// limits. Each line is passed once.
 pub fn read_facts<'a>(alloc: Global, text: &'a [u8]) -> Result<Facts<'a>, MpsStop>
     requires { length text.now < 2 ^ 32 - 1 }
-    ensures { MatchResult result (IsFactsOf text.now) (StopsBy (IsLineFault text.now)) }
+    ensures facts { MatchResult result (IsFactsOf text.now) (StopsBy (IsLineFault text.now)) }
+    ensures sound { IfOk result AreSound }
 {
     let mut tables = no_tables(alloc);
     let end = read_lines(alloc, text, &mut tables)?;

@@ -183,7 +183,13 @@ const FAULTY: [Faulty; 30] = [
 fn faults_are_the_worked_ones(rt: HostRuntime) -> Result<(), Fail> {
     for case in FAULTY.iter() {
         let fault = fault_of(rt.alloc(), case.text)?;
-        assert_eq!(rt; fault, Some(MpsFault { line: case.line, kind: case.kind }));
+        assert_eq!(rt;
+            fault,
+            Some(MpsFault {
+                line: case.line,
+                kind: case.kind
+            })
+        );
     }
     Ok(())
 }
@@ -216,22 +222,30 @@ fn counts_of(alloc: Global, text: &[u8]) -> Result<Option<[usize; 7]>, OutOfMemo
 #[test]
 fn facts_are_counted(rt: HostRuntime) -> Result<(), Fail> {
     // comments, tabs, empty lines and carriage returns; what follows ENDATA is free
-    let free = b"* a comment\r\nROWS\r\n\tN\tC\r\n\r\n G R\nCOLUMNS\n x C 1 R 2\n x \t \nENDATA\n\x01\n?\n".as_slice();
+    let free =
+        b"* a comment\r\nROWS\r\n\tN\tC\r\n\r\n G R\nCOLUMNS\n x C 1 R 2\n x \t \nENDATA\n\x01\n?\n".as_slice();
     assert_eq!(rt; counts_of(rt.alloc(), free)?, None);
-    let free = b"* a comment\r\nROWS\r\n\tN\tC\r\n\r\n G R\nCOLUMNS\n x C 1 R 2\nENDATA\n\x01\n?\n".as_slice();
+    let free =
+        b"* a comment\r\nROWS\r\n\tN\tC\r\n\r\n G R\nCOLUMNS\n x C 1 R 2\nENDATA\n\x01\n?\n".as_slice();
     assert_eq!(rt; counts_of(rt.alloc(), free)?, Some([2, 1, 2, 0, 0, 0, 8]));
     // a right side and ranges of N rows; a set name that is left out is another one
-    let further = b"ROWS\n N C\n N D\nCOLUMNS\n x D 0\nRHS\n D 1\n T D two\nRANGES\n R D 1 C 2\n C two\nENDATA\n".as_slice();
-    assert_eq!(rt; counts_of(rt.alloc(), further)?, Some([2, 1, 1, 1, 2, 0, 12]));
+    let further =
+        b"ROWS\n N C\n N D\nCOLUMNS\n x D 0\nRHS\n D 1\n T D two\nRANGES\n R D 1 C 2\n C two\nENDATA\n".as_slice();
+    assert_eq!(rt;
+        counts_of(rt.alloc(), further)?,
+        Some([2, 1, 1, 1, 2, 0, 12])
+    );
     // FR with four fields, and lines of two other sets
-    let bounds = b"ROWS\n N C\nCOLUMNS\n x C 0\nBOUNDS\n FR S x 7\n UP T y one\n MI y\nENDATA\n".as_slice();
+    let bounds =
+        b"ROWS\n N C\nCOLUMNS\n x C 0\nBOUNDS\n FR S x 7\n UP T y one\n MI y\nENDATA\n".as_slice();
     assert_eq!(rt; counts_of(rt.alloc(), bounds)?, Some([1, 1, 1, 0, 0, 1, 9]));
     Ok(())
 }
 
 #[test]
 fn facts_are_those_of_one(rt: HostRuntime) -> Result<(), Fail> {
-    let one = b"NAME ONE\nOBJSENSE\n MAX\nROWS\n N COST\n G LINK\nCOLUMNS\n M1 'MARKER' 'INTORG'\n x COST 2 LINK -2.50\n M2 'MARKER' 'INTEND'\n y COST 3 LINK 1\nRHS\n RHS LINK 1\nBOUNDS\n UP BND x 1\n UP BND y 1e20\nENDATA\n".as_slice();
+    let one =
+        b"NAME ONE\nOBJSENSE\n MAX\nROWS\n N COST\n G LINK\nCOLUMNS\n M1 'MARKER' 'INTORG'\n x COST 2 LINK -2.50\n M2 'MARKER' 'INTEND'\n y COST 3 LINK 1\nRHS\n RHS LINK 1\nBOUNDS\n UP BND x 1\n UP BND y 1e20\nENDATA\n".as_slice();
     let facts = read_facts(rt.alloc(), one)?;
     assert_eq!(rt; counts(&facts), [2, 2, 4, 1, 0, 2, 17]);
     assert!(rt; facts.maximise);

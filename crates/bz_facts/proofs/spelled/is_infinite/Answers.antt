@@ -1,5 +1,5 @@
 -- The size is a number times a power of ten.
-use Rattle.std.proofs.Common.{◌∙◌, ◌≡◌, ◌-◌, ◌^◌, ◌≤◌, ◌+ℤ◌, pos, ap, sym, arith, rules, nat_lt, nat_le, FitsSigned, to_z-of_z, w32}
+use Rattle.std.proofs.Common.{◌∙◌, ◌-◌, ◌^◌, ◌≤◌, ◌+ℤ◌, pos, ap, arith, rules, nat_lt, nat_le, FitsSigned, to_z-of_z, w32}
 use Rattle.std.specs.Int.{w128}
 use Rattle.std.specs.Int.RustNames.{unsigned_abs}
 use Rattle.std.proofs.Math.Nat.{pow-le-pow_right}
