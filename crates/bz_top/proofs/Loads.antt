@@ -6,7 +6,7 @@ use Rattle.bz_io.specs.Told.{WhereTold}
 use Rattle.bz_model.specs.declared.Model.{Model}
 use Rattle.bz_model.specs.Splits.{Decomposition}
 use Rattle.bz_model.specs.Strict.{IsStrict}
-use Rattle.bz_mps.specs.declared.MpsFault.{MpsFault}
+use Rattle.bz_facts.specs.declared.MpsFault.{MpsFault}
 use Rattle.bz_mps.specs.FactModel.{ModelOf, MpsFaultOf}
 use Rattle.bz_part.specs.declared.PartFault.{PartFault as FaultOfPart}
 use Rattle.bz_part.specs.Partition.{PartFault, PartOf}

@@ -11,7 +11,7 @@ use Rattle.bz_model.specs.Parting.{blocks_of}
 use Rattle.bz_model.specs.Splits.{Decomposition}
 use Rattle.bz_model.specs.Points.{objective, IsOptimal, IsInfeasible, IsUnbounded}
 use Rattle.bz_model.specs.Strict.{IsStrict}
-use Rattle.bz_mps.specs.declared.MpsFault.{MpsFault}
+use Rattle.bz_facts.specs.declared.MpsFault.{MpsFault}
 use Rattle.bz_mps.specs.FactModel.{ModelOf, MpsFaultOf}
 use Rattle.bz_part.specs.declared.PartFault.{PartFault as FaultOfPart}
 use Rattle.bz_part.specs.Partition.{PartFault, PartOf}

@@ -12,9 +12,9 @@ use Rattle.bz_model.specs.declared.Model.{Model}
 use Rattle.bz_model.specs.Parting.{part_of, width_of}
 use Rattle.bz_model.specs.Splits.{Decomposition}
 use Rattle.bz_model.specs.Strict.{size_of}
-use Rattle.bz_mps.specs.declared.MpsFault.{MpsFault}
-use Rattle.bz_mps.specs.declared.MpsKind.{MpsKind}
-use Rattle.bz_mps.specs.declared.MpsKind.TheVariants as mps
+use Rattle.bz_facts.specs.declared.MpsFault.{MpsFault}
+use Rattle.bz_facts.specs.declared.MpsKind.{MpsKind}
+use Rattle.bz_facts.specs.declared.MpsKind.TheVariants as mps
 use Rattle.bz_part.specs.declared.PartFault.{PartFault}
 use Rattle.bz_part.specs.declared.PartKind.{PartKind}
 use Rattle.bz_part.specs.declared.PartKind.TheVariants as part

@@ -1,14 +1,14 @@
 //! The numbers and the names of the kinds of faults of texts.
-ghost use Rattle.std.specs.Prelude.{◌≡◌, pos};
+ghost use Rattle.std.specs.Prelude.{◌≡◌};
 ghost use Rattle.bz_top.specs.Texts.{kind_name, kind_number, mps_name as name_of_mps, mps_number as number_of_mps, part_name as name_of_part, part_number as number_of_part};
 
 use bz_cert::CertKind;
-use bz_mps::MpsKind;
+use bz_facts::MpsKind;
 use bz_part::PartKind;
 
 /// The number of a kind of fault of a model's text.
-pub(crate) fn mps_number(kind: MpsKind) -> i128
-    ensures { result ≡ pos (number_of_mps kind) }
+pub(crate) fn mps_number(kind: MpsKind) -> u32
+    ensures { result ≡ number_of_mps kind }
 {
     match kind {
         MpsKind::Section => 1,
@@ -67,8 +67,8 @@ pub(crate) fn mps_name(kind: MpsKind) -> &'static [u8]
 }
 
 /// The number of a kind of fault of a partition's text.
-pub(crate) fn part_number(kind: PartKind) -> i128
-    ensures { result ≡ pos (number_of_part kind) }
+pub(crate) fn part_number(kind: PartKind) -> u32
+    ensures { result ≡ number_of_part kind }
 {
     match kind {
         PartKind::Head => 1,
@@ -99,8 +99,8 @@ pub(crate) fn part_name(kind: PartKind) -> &'static [u8]
 }
 
 /// The number of a kind of fault of a certificate's text.
-pub(crate) fn cert_number(kind: CertKind) -> i128
-    ensures { result ≡ pos (kind_number kind) }
+pub(crate) fn cert_number(kind: CertKind) -> u32
+    ensures { result ≡ kind_number kind }
 {
     match kind {
         CertKind::Head => 1,

@@ -5,10 +5,10 @@ ghost use Rattle.bz_io.specs.Sink.{Takes, TakesPrefix};
 ghost use Rattle.bz_io.specs.Told.{WhereTold};
 ghost use Rattle.bz_model.specs.Parting.{part_of};
 ghost use Rattle.bz_top.specs.Ends.{refusal_text};
-ghost use Rattle.bz_top.specs.Texts.{cert_fault, check_fault, check_word, column_named, holds_text, line, mps_fault, numbered, part_fault, row_named, split_fault, usage_text};
+ghost use Rattle.bz_top.specs.Texts.{cert_fault, check_fault, check_word, column_named, holds_text, line, mps_fault, numbered, part_fault, row_named, split_fault, text_fault, usage_text};
 
 use crate::kinds::{cert_name, cert_number, mps_name, mps_number, part_name, part_number};
-use crate::pieces::Piece::{Number, Text};
+use crate::pieces::Piece::{Count, Number, Text};
 use crate::pieces::put_pieces;
 use crate::said::Holding;
 use crate::status::Refusal;
@@ -16,7 +16,7 @@ use bz_cert::CertFault;
 use bz_check::{CheckFault, Stated};
 use bz_io::{PutFailed, Sink, put_all};
 use bz_model::Model;
-use bz_mps::MpsFault;
+use bz_facts::MpsFault;
 use bz_part::PartFault;
 use bz_split::{SplitFault, Unsplit};
 
@@ -55,24 +55,41 @@ fn put_holds<O: Sink>(out: &mut O, holding: Holding) -> Result<(), PutFailed>
     }
 }
 
+/// Puts the line of a fault of a text: what the text is of, its line, and the number and the name of its kind.
+fn put_text_fault<'x, O: Sink>(
+    out: &mut O,
+    file: &'x [u8],
+    place: u32,
+    kind: u32,
+    name: &'x [u8],
+) -> Result<(), PutFailed>
+    ensures ok { OnOk result (WhereTold (Takes (line (text_fault file.now place kind name.now))) (O.taken out.old) (O.taken out.new)) }
+    ensures failed { OnErr result (WhereTold (TakesPrefix (line (text_fault file.now place kind name.now))) (O.taken out.old) (O.taken out.new)) }
+    ensures count { CountsFault result (O.faults out.old) (O.faults out.new) }
+{
+    put_pieces(
+        out,
+        &[
+            Text(file),
+            Text(b" line "),
+            Count(place as usize),
+            Text(b": "),
+            Count(kind as usize),
+            Text(b" "),
+            Text(name),
+            Text(b"\n"),
+        ],
+    )
+}
+
 /// Puts the line of a fault of a model's text.
 fn put_mps_fault<O: Sink>(out: &mut O, fault: MpsFault) -> Result<(), PutFailed>
     ensures ok { OnOk result (WhereTold (Takes (line (mps_fault fault))) (O.taken out.old) (O.taken out.new)) }
     ensures failed { OnErr result (WhereTold (TakesPrefix (line (mps_fault fault))) (O.taken out.old) (O.taken out.new)) }
     ensures count { CountsFault result (O.faults out.old) (O.faults out.new) }
 {
-    put_pieces(
-        out,
-        &[
-            Text(b"model line "),
-            Number(i128::from(fault.line)),
-            Text(b": "),
-            Number(mps_number(fault.kind)),
-            Text(b" "),
-            Text(mps_name(fault.kind)),
-            Text(b"\n"),
-        ],
-    )
+    let kind = fault.kind;
+    put_text_fault(out, b"model", fault.line, mps_number(kind), mps_name(kind))
 }
 
 /// Puts the line of a fault of a partition's text.
@@ -81,17 +98,13 @@ fn put_part_fault<O: Sink>(out: &mut O, fault: PartFault) -> Result<(), PutFaile
     ensures failed { OnErr result (WhereTold (TakesPrefix (line (part_fault fault))) (O.taken out.old) (O.taken out.new)) }
     ensures count { CountsFault result (O.faults out.old) (O.faults out.new) }
 {
-    put_pieces(
+    let kind = fault.kind;
+    put_text_fault(
         out,
-        &[
-            Text(b"partition line "),
-            Number(i128::from(fault.line)),
-            Text(b": "),
-            Number(part_number(fault.kind)),
-            Text(b" "),
-            Text(part_name(fault.kind)),
-            Text(b"\n"),
-        ],
+        b"partition",
+        fault.line,
+        part_number(kind),
+        part_name(kind),
     )
 }
 
@@ -101,17 +114,13 @@ fn put_cert_fault<O: Sink>(out: &mut O, fault: CertFault) -> Result<(), PutFaile
     ensures failed { OnErr result (WhereTold (TakesPrefix (line (cert_fault fault))) (O.taken out.old) (O.taken out.new)) }
     ensures count { CountsFault result (O.faults out.old) (O.faults out.new) }
 {
-    put_pieces(
+    let kind = fault.kind;
+    put_text_fault(
         out,
-        &[
-            Text(b"certificate line "),
-            Number(i128::from(fault.line)),
-            Text(b": "),
-            Number(cert_number(fault.kind)),
-            Text(b" "),
-            Text(cert_name(fault.kind)),
-            Text(b"\n"),
-        ],
+        b"certificate",
+        fault.line,
+        cert_number(kind),
+        cert_name(kind),
     )
 }
 
@@ -136,7 +145,7 @@ fn put_one<O: Sink>(out: &mut O, word: &[u8], at: u32) -> Result<(), PutFailed>
             Text(b"certificate: "),
             Text(word),
             Text(b" "),
-            Number(i128::from(at)),
+            Count(at as usize),
             Text(b"\n"),
         ],
     )
@@ -154,9 +163,9 @@ fn put_two<O: Sink>(out: &mut O, word: &[u8], first: u32, at: u32) -> Result<(),
             Text(b"certificate: "),
             Text(word),
             Text(b" "),
-            Number(i128::from(first)),
+            Count(first as usize),
             Text(b" "),
-            Number(i128::from(at)),
+            Count(at as usize),
             Text(b"\n"),
         ],
     )
@@ -239,7 +248,7 @@ fn put_split_number<'x, O: Sink>(
             Text(why),
             Text(name),
             Text(b" "),
-            Number(i128::from(number)),
+            Count(number as usize),
             Text(b"\n"),
         ],
     )
@@ -264,9 +273,9 @@ fn put_split_numbers<'x, O: Sink>(
             Text(why),
             Text(name),
             Text(b" "),
-            Number(i128::from(first)),
+            Count(first as usize),
             Text(b" "),
-            Number(i128::from(second)),
+            Count(second as usize),
             Text(b"\n"),
         ],
     )

@@ -7,7 +7,7 @@ ghost use Rattle.bz_model.specs.Parting.{blocks_of};
 ghost use Rattle.bz_model.specs.Strict.{size_of};
 ghost use Rattle.bz_top.specs.Texts.{part_line, parts_text};
 
-use crate::pieces::Piece::{Number, Text};
+use crate::pieces::Piece::{Count, Text};
 use crate::pieces::put_pieces;
 use bz_io::{PutFailed, Sink};
 use bz_model::{Column, Split};
@@ -16,13 +16,7 @@ use bz_model::{Column, Split};
 fn integers_among(columns: &[Column]) -> usize
     ensures { result ≡ length (filter (λ column. column.integer) columns.now) }
 {
-    let mut count: usize = 0;
-    for column in columns {
-        if column.integer {
-            count += 1;
-        }
-    }
-    count
+    columns.iter().filter(|column| column.integer).count()
 }
 
 /// How many inequalities a part has, two counted for each integer column of the master.
@@ -48,13 +42,13 @@ fn put_part<O: Sink>(out: &mut O, split: &Split, part: u32, rows: u32) -> Result
         out,
         &[
             Text(b"part "),
-            Number(i128::from(part)),
+            Count(part as usize),
             Text(b" columns "),
-            Number(split.columns_of(part).len() as i128),
+            Count(split.columns_of(part).len()),
             Text(b" rows "),
-            Number(i128::from(rows)),
+            Count(rows as usize),
             Text(b" inequalities "),
-            Number(size(split, part) as i128),
+            Count(size(split, part)),
             Text(b"\n"),
         ],
     )

@@ -4,7 +4,7 @@ ghost use Rattle.bz_top.specs.Ends.{number_of};
 
 use bz_cert::CertFault;
 use bz_check::CheckFault;
-use bz_mps::MpsFault;
+use bz_facts::MpsFault;
 use bz_part::PartFault;
 use bz_split::Unsplit;
 
