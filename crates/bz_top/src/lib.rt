@@ -1,14 +1,25 @@
 //! The top call.
 #![tactic(auto)]
 
+mod check;
+#[cfg(test)]
+mod edge_tests;
 mod job;
 mod kinds;
+mod loading;
+mod parting;
 mod pieces;
 mod print;
 mod put_parts;
+mod running;
 mod said;
 mod status;
+#[cfg(test)]
+mod tests;
+#[cfg(test)]
+mod verdict_tests;
 mod words;
 
 pub use job::{FileName, Job};
+pub use running::{do_alone, run};
 pub use status::Status;

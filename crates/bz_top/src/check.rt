@@ -1,0 +1,95 @@
+//! The check of a certificate, from the files of a job.
+ghost use Rattle.std.specs.Prelude.{◌≡◌, ◌≤◌, length, IfErr, IfOk};
+ghost use Rattle.bz_cert.specs.Shapes.{IsShaped};
+ghost use Rattle.bz_check.specs.Fits.{Fits};
+ghost use Rattle.bz_check.specs.Passing.{Passes};
+ghost use Rattle.bz_io.specs.Desk.{IsSame};
+ghost use Rattle.bz_io.specs.Told.{WhereTold};
+ghost use Rattle.bz_model.specs.Splits.{IsSplit};
+ghost use Rattle.bz_top.specs.Claims.{CountsFiles, HasCert, IsCause};
+ghost use Rattle.bz_top.specs.Loads.{Certified, EndsDecomposed, Reached, RefusesCheck, Says, ShownHolding};
+ghost use Rattle.bz_top.specs.declared.status.File.TheVariants.{Cert as CertFile};
+
+use crate::job::Job;
+use crate::loading::{load_file, load_split};
+use crate::said::Holding;
+use crate::status::{File, Refusal};
+use bz_cert::{CertStop, Certificate, Verdict, read_cert};
+use bz_check::{CheckFault, check, stated_of};
+use bz_io::Desk;
+use bz_model::Split;
+use std::alloc::Global;
+
+/// The job's certificate.
+fn load_cert<D: Desk>(alloc: Global, job: &Job, desk: &mut D) -> Result<Certificate, Refusal>
+    requires asked { HasCert job.now }
+    requires reached { Reached (D.held desk.old) job.now CertFile }
+    ensures reads { IfOk result (Certified (D.held desk.old) job.now) }
+    ensures shaped { IfOk result IsShaped }
+    ensures cause { IfErr result (IsCause (D.held desk.old) job.now) }
+    ensures kept { WhereTold IsSame (D.held desk.old) (D.held desk.new) }
+    ensures count { CountsFiles result (D.faults desk.old) (D.faults desk.new) }
+{
+    let text = load_file(alloc, job, File::Cert, desk)?;
+    match read_cert(alloc, text.as_slice()) {
+        Ok(certificate) => Ok(certificate),
+        Err(CertStop::Fault(fault)) => Err(Refusal::Cert(fault)),
+        Err(CertStop::OutOfMemory) => Err(Refusal::Memory),
+    }
+}
+
+/// What a certificate that passes and fits says.
+fn holding_of(split: &Split, certificate: &Certificate) -> Holding
+    requires passes { Passes split.now.model split.now.part certificate.now }
+    requires fits { Fits split.now.model split.now.part certificate.now }
+    ensures says { Says split.now certificate.now result }
+    ensures split { IsSplit split.now }
+{
+    let model = split.model();
+    match (certificate.verdict, &certificate.parts) {
+        (Verdict::Optimal, Some(parts)) => {
+            match stated_of(model, certificate.value, parts.master.den) {
+                Some(stated) => Holding::Optimal(stated),
+                None => unreachable!(),
+            }
+        },
+        (Verdict::Optimal, None) => unreachable!(),
+        (Verdict::Infeasible, _) => Holding::Infeasible,
+        (Verdict::Unbounded, _) => Holding::Unbounded,
+    }
+}
+
+/// What the certificate says, where it passes and fits.
+fn judge(alloc: Global, split: &Split, certificate: &Certificate) -> Result<Holding, Refusal>
+    requires shaped { IsShaped certificate.now }
+    requires few_rows { length split.now.model.rows ≤ 2048 }
+    ensures passes { IfOk result (λ _. Passes split.now.model split.now.part certificate.now) }
+    ensures fits { IfOk result (λ _. Fits split.now.model split.now.part certificate.now) }
+    ensures says { IfOk result (Says split.now certificate.now) }
+    ensures split { IfOk result (λ _. IsSplit split.now) }
+    ensures refused { IfErr result (RefusesCheck split.now certificate.now) }
+{
+    match check(alloc, split, certificate) {
+        Ok(()) => Ok(holding_of(split, certificate)),
+        Err(CheckFault::OutOfMemory) => Err(Refusal::Memory),
+        Err(fault) => Err(Refusal::Check(fault)),
+    }
+}
+
+/// What the job's certificate says, where the files show it.
+pub(crate) fn check_files<D: Desk>(
+    alloc: Global,
+    job: &Job,
+    desk: &mut D,
+) -> Result<Holding, Refusal>
+    requires { HasCert job.now }
+    ensures shown { IfOk result (ShownHolding (D.held desk.old) job.now) }
+    ensures cause { IfErr result (IsCause (D.held desk.old) job.now) }
+    ensures decomposed { EndsDecomposed (D.held desk.old) job.now result }
+    ensures kept { WhereTold IsSame (D.held desk.old) (D.held desk.new) }
+    ensures count { CountsFiles result (D.faults desk.old) (D.faults desk.new) }
+{
+    let split = load_split(alloc, job, desk)?;
+    let certificate = load_cert(alloc, job, desk)?;
+    judge(alloc, &split, &certificate)
+}
