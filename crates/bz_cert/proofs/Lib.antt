@@ -8,6 +8,7 @@ pub mod ListLemmas
 pub mod NumberTexts
 pub mod Phases
 pub mod Refusals
+pub mod RoundTrip
 pub mod SparseLists
 pub mod Standings
 pub mod Steps
@@ -15,3 +16,4 @@ pub mod TextFaults
 pub mod TextLines
 pub mod TextsOnce
 pub mod TextsPass
+pub mod Written

@@ -129,9 +129,11 @@ fails_once verdict before lines rest n m j k (FailsAtOnce.breaks own from_feed b
 fails_once verdict before lines rest n m j k (FailsAtOnce.breaks own from_feed begins breaks a) (FailsAtOnce.breaks other behind begins' breaks' x) =
     let parts : (own ≡ other) × (from_feed ≡ behind) =
     same_until (λ b. b ≢ 10) own other from_feed behind begins.clear begins'.clear (feed_stops from_feed begins.apart) (feed_stops behind begins'.apart)
-    (sym begins.joined ∙ begins'.joined) in
-    (a ∙ sym x, one_kind (tests_behind before.last verdict before other) j k
-    (subst (λ (bytes : List ℕ). BreaksFirst (tests_behind before.last verdict before bytes) j) parts.0 breaks) breaks')
+    (sym begins.joined ∙ begins'.joined) in (
+      a ∙ sym x,
+      one_kind (tests_behind before.last verdict before other) j k
+          (subst (λ (bytes : List ℕ). BreaksFirst (tests_behind before.last verdict before bytes) j) parts.0 breaks) breaks',
+    )
 fails_once verdict before lines rest n m j k (FailsAtOnce.breaks own from_feed begins breaks a) (FailsAtOnce.lacks_feed line is p x y) =
     absurd (open_breaks_nothing verdict before rest own from_feed j line is p begins breaks)
 fails_once verdict before lines rest n m j k (FailsAtOnce.lacks_feed line is p a b) (FailsAtOnce.ends none _ x y) = absurd (some_bytes line (sym is ∙ none))

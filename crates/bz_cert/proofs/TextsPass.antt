@@ -72,8 +72,19 @@ cut_passes : (verdict : Verdict) (before : Standing) (cut : Cut) → IsIn (words
 cut_passes verdict before cut possible narrow writable = record {
   possible = possible;
   tree = λ t. t;
-  narrow = (narrow_index cut.block writable.block, (narrow.p0, (narrow.beta, (narrow.gcd,
-      all_joined IsNarrow (sparse_numbers cut.alpha) (sparse_numbers cut.mu) (narrow_list cut.alpha writable.alpha) (narrow_list cut.mu writable.mu)))));
+  narrow = (
+    narrow_index cut.block writable.block,
+    (
+      narrow.p0,
+      (
+        narrow.beta,
+        (
+          narrow.gcd,
+          all_joined IsNarrow (sparse_numbers cut.alpha) (sparse_numbers cut.mu) (narrow_list cut.alpha writable.alpha) (narrow_list cut.mu writable.mu),
+        ),
+      ),
+    ),
+  );
   indexes = (index_of cut.block writable.block, lists_in_range cut.alpha cut.mu writable.alpha writable.mu);
   few = λ t. t;
   enough = cut_numbers _ cut refl;
@@ -129,9 +140,9 @@ tree_then : (verdict : Verdict) (before : Standing) (trees nodes : ℕ) (tree : 
     ((b : Standing) → BeforeNodes verdict b trees (nodes + length (preorder tree)) → PassFrom verdict b more) →
     PassFrom verdict before (map node_line (preorder tree) ++ more)
 tree_then verdict before trees nodes (tip leaf) more h few narrow writable later = (
-    leaf_passes verdict before trees nodes leaf h (omega (arith, few)) narrow.0 writable.0,
-    later _ (subst (λ (n : ℕ). BeforeNodes verdict (advance before (node_line (TreeNode.Leaf leaf))) trees n) one_node (behind_leaf verdict before trees nodes leaf h)),
-  )
+  leaf_passes verdict before trees nodes leaf h (omega (arith, few)) narrow.0 writable.0,
+  later _ (subst (λ (n : ℕ). BeforeNodes verdict (advance before (node_line (TreeNode.Leaf leaf))) trees n) one_node (behind_leaf verdict before trees nodes leaf h)),
+)
   where
     one_node : suc nodes ≡ nodes + 1
     one_node = omega arith
@@ -145,13 +156,14 @@ tree_then verdict before trees nodes (fork position left right below above) more
     let all : suc nodes + length (preorder below) ≤ 65535 = omega (arith, few, size) in
     let lines : map node_line (preorder below ++ preorder above) ++ more ≡ map node_line (preorder below) ++ (map node_line (preorder above) ++ more) =
     ap (λ ls. ls ++ more) (map-append node_line (preorder below) (preorder above))
-    ∙ append_assoc (map node_line (preorder below)) (map node_line (preorder above)) more in
-    (split_passes verdict before trees nodes position left right h (omega (arith, few)) writable.0 narrow.0.0 narrow.0.1,
-    subst (λ (ls : List CertLine). PassFrom verdict (advance before (node_line (TreeNode.Split position left right))) ls) (sym lines)
-    (tree_then verdict (advance before (node_line (TreeNode.Split position left right))) (suc trees) (suc nodes) below (map node_line (preorder above) ++ more)
-    (behind_split verdict before trees nodes position left right h) all narrows.0 writables.0
-    (λ b k. tree_then verdict b trees (suc nodes + length (preorder below)) above more k (omega (arith, few, size)) narrows.1 writables.1
-    (λ d l. later d (subst (λ (n : ℕ). BeforeNodes verdict d trees n) size l)))))
+    ∙ append_assoc (map node_line (preorder below)) (map node_line (preorder above)) more in (
+      split_passes verdict before trees nodes position left right h (omega (arith, few)) writable.0 narrow.0.0 narrow.0.1,
+      subst (λ (ls : List CertLine). PassFrom verdict (advance before (node_line (TreeNode.Split position left right))) ls) (sym lines)
+          (tree_then verdict (advance before (node_line (TreeNode.Split position left right))) (suc trees) (suc nodes) below (map node_line (preorder above) ++ more)
+          (behind_split verdict before trees nodes position left right h) all narrows.0 writables.0
+          (λ b k. tree_then verdict b trees (suc nodes + length (preorder below)) above more k (omega (arith, few, size)) narrows.1 writables.1
+          (λ d l. later d (subst (λ (n : ℕ). BeforeNodes verdict d trees n) size l)))),
+    )
 
 -- what holds before cuts of which so many are still to come, and then a tree
 pub record BeforeCuts (verdict : Verdict) (before : Standing) (cuts : ℕ) : Type 0 where
@@ -202,9 +214,10 @@ cuts_then : (verdict : Verdict) (before : Standing) (cuts : List Cut) (more : Li
     AllByRecursion IsNarrowCut cuts → AllByRecursion IsWritableCut cuts → ((b : Standing) → BeforeCuts verdict b 0 → PassFrom verdict b more) →
     PassFrom verdict before (map cut_line cuts ++ more)
 cuts_then verdict before [] more h narrow writable later = later before h
-cuts_then verdict before (cut ∷ cuts) more h narrow writable later =
-    (cut_passes verdict before cut (cut_allowed verdict before (length cuts) h) narrow.0 writable.0,
-    cuts_then verdict (advance before (cut_line cut)) cuts more (behind_cut verdict before cut (length cuts) h) narrow.1 writable.1 later)
+cuts_then verdict before (cut ∷ cuts) more h narrow writable later = (
+  cut_passes verdict before cut (cut_allowed verdict before (length cuts) h) narrow.0 writable.0,
+  cuts_then verdict (advance before (cut_line cut)) cuts more (behind_cut verdict before cut (length cuts) h) narrow.1 writable.1 later,
+)
 
 -- what holds before the number of the cuts
 pub record BeforeBound (verdict : Verdict) (before : Standing) : Type 0 where
@@ -243,16 +256,17 @@ bound_pass : (verdict : Verdict) (before : Standing) (cuts : List Cut) (nodes : 
     PassFrom verdict before (bound_lines cuts nodes)
 bound_pass verdict before cuts nodes h are are_nodes writable writable_nodes stays =
     let is : nodes ≡ preorder are_nodes.tree = are_nodes.is_tree in
-    let few : length (preorder are_nodes.tree) ≤ 65535 = subst (λ (ns : List TreeNode). length ns ≤ 65535) is are_nodes.few in
-    (count_passes verdict before (length cuts) h are.few,
-    subst (λ (ls : List CertLine). PassFrom verdict (advance before (line_with Word.Cuts (pos (length cuts) ∷ []))) ls)
-    (sym (append_assoc (map cut_line cuts) (map node_line nodes) (line_with Word.End [] ∷ [])))
-    (cuts_then verdict _ cuts (map node_line nodes ++ line_with Word.End [] ∷ []) (behind_count verdict before (length cuts) h) are.narrow writable
-    (λ b k. subst (λ (ns : List TreeNode). PassFrom verdict b (map node_line ns ++ line_with Word.End [] ∷ [])) (sym is)
-    (tree_then verdict b 0 0 are_nodes.tree (line_with Word.End [] ∷ []) (first_node verdict b k) (omega (arith, few))
-    (subst (λ (ns : List TreeNode). AllByRecursion IsNarrowNode ns) is are_nodes.narrow)
-    (subst (λ (ns : List TreeNode). AllByRecursion IsWritableNode ns) is writable_nodes)
-    (λ d l. (end_passes verdict d _ l stays, tt))))))
+    let few : length (preorder are_nodes.tree) ≤ 65535 = subst (λ (ns : List TreeNode). length ns ≤ 65535) is are_nodes.few in (
+      count_passes verdict before (length cuts) h are.few,
+      subst (λ (ls : List CertLine). PassFrom verdict (advance before (line_with Word.Cuts (pos (length cuts) ∷ []))) ls)
+          (sym (append_assoc (map cut_line cuts) (map node_line nodes) (line_with Word.End [] ∷ [])))
+          (cuts_then verdict _ cuts (map node_line nodes ++ line_with Word.End [] ∷ []) (behind_count verdict before (length cuts) h) are.narrow writable
+          (λ b k. subst (λ (ns : List TreeNode). PassFrom verdict b (map node_line ns ++ line_with Word.End [] ∷ [])) (sym is)
+          (tree_then verdict b 0 0 are_nodes.tree (line_with Word.End [] ∷ []) (first_node verdict b k) (omega (arith, few))
+          (subst (λ (ns : List TreeNode). AllByRecursion IsNarrowNode ns) is are_nodes.narrow)
+          (subst (λ (ns : List TreeNode). AllByRecursion IsWritableNode ns) is writable_nodes)
+          (λ d l. (end_passes verdict d _ l stays, tt))))),
+    )
 
 -- what holds before blocks, behind which a line of another word comes
 pub record BeforeBlocks (verdict : Verdict) (before : Standing) (last : Word) (blocks : ℕ) : Type 0 where
@@ -294,57 +308,66 @@ blocks_then : (verdict : Verdict) (before : Standing) (last : Word) (first : ℕ
     ((b : Standing) (count : ℕ) → BeforeBlocks verdict b last count → PassFrom verdict b more) → PassFrom verdict before (block_lines (suc first) blocks ++ more)
 blocks_then verdict before last first [] more words h few narrow later = later before first h
 blocks_then verdict before last first (block ∷ blocks) more words h few narrow later =
-    let next : suc (suc first) ≡ suc first + 1 = omega arith in
-    (block_passes verdict before last first block h (omega (arith, few)) narrow.0,
-    subst (λ (n : ℕ). PassFrom verdict (advance before (line_with Word.Block (pos (suc first) ∷ block.times ∷ block.y))) (block_lines n blocks ++ more)) next
-    (blocks_then verdict (advance before (line_with Word.Block (pos (suc first) ∷ block.times ∷ block.y))) last (suc first) blocks more words
-    (behind_block verdict before last first block words h) (omega (arith, few)) narrow.1 later))
+    let next : suc (suc first) ≡ suc first + 1 = omega arith in (
+      block_passes verdict before last first block h (omega (arith, few)) narrow.0,
+      subst (λ (n : ℕ). PassFrom verdict (advance before (line_with Word.Block (pos (suc first) ∷ block.times ∷ block.y))) (block_lines n blocks ++ more)) next
+          (blocks_then verdict (advance before (line_with Word.Block (pos (suc first) ∷ block.times ∷ block.y))) last (suc first) blocks more words
+          (behind_block verdict before last first block words h) (omega (arith, few)) narrow.1 later),
+    )
 
 lines_pass : (v : Verdict) (p : Option Parts) (x : ℤ) (r : List ℤ) (cuts : List Cut) (nodes : List TreeNode) → HasPartsOf v p → HasValueOf v x → HasRayOf v r →
     HasCutsOf v cuts → HasTreeOf v nodes → HasFewBlocks p → AllByRecursion IsWritableCut cuts → AllByRecursion IsWritableNode nodes →
     PassFrom v start (lines_by v p x r cuts nodes)
 lines_pass Optimal None x r cuts nodes hp hx hr hc hn few wc wn = absurd hp
-lines_pass Optimal (Some p) x r cuts nodes hp hx hr hc hn few wc wn =
-    (record { possible = inl refl; tree = λ t. t; narrow = (hp.den, hp.x); indexes = tt; few = λ t. t; enough = omega arith; in_order = tt },
-    (record { possible = inl refl; tree = λ t. t; narrow = hp.eta; indexes = tt; few = λ t. t; enough = tt; in_order = tt },
+lines_pass Optimal (Some p) x r cuts nodes hp hx hr hc hn few wc wn = (
+  record { possible = inl refl; tree = λ t. t; narrow = (hp.den, hp.x); indexes = tt; few = λ t. t; enough = omega arith; in_order = tt },
+  (
+    record { possible = inl refl; tree = λ t. t; narrow = hp.eta; indexes = tt; few = λ t. t; enough = tt; in_order = tt },
     blocks_then Optimal _ Word.Value 0 p.blocks (line_with Word.Value (x ∷ []) ∷ bound_lines cuts nodes) refl
-    (record { words_are = λ to_come. refl; blocks_are = refl; told = refl; cuts = refl; splits = refl; leaves = refl }) (omega (arith, few)) hp.blocks
-    (λ b count h. (record {
-      possible = is_possible _ (Word.Block ∷ Word.Value ∷ []) Word.Value (h.words_are _) (inr (inl refl));
-      tree = λ t. t;
-      narrow = (hx, tt);
-      indexes = tt;
-      few = λ t. t;
-      enough = refl;
-      in_order = tt;
-    },
-    bound_pass Optimal _ cuts nodes
-    (record {
-      words_are = λ to_come. refl;
-      told = omega (arith, h.told);
-      cuts = omega (arith, h.cuts);
-      splits = omega (arith, h.splits);
-      leaves = omega (arith, h.leaves);
-    }) hc hn wc wn (λ d whole broken. broken whole)))))
+        (record { words_are = λ to_come. refl; blocks_are = refl; told = refl; cuts = refl; splits = refl; leaves = refl }) (omega (arith, few)) hp.blocks
+        (λ b count h. (
+          record {
+            possible = is_possible _ (Word.Block ∷ Word.Value ∷ []) Word.Value (h.words_are _) (inr (inl refl));
+            tree = λ t. t;
+            narrow = (hx, tt);
+            indexes = tt;
+            few = λ t. t;
+            enough = refl;
+            in_order = tt;
+          },
+          bound_pass Optimal _ cuts nodes
+              (record {
+                words_are = λ to_come. refl;
+                told = omega (arith, h.told);
+                cuts = omega (arith, h.cuts);
+                splits = omega (arith, h.splits);
+                leaves = omega (arith, h.leaves);
+              }) hc hn wc wn (λ d whole broken. broken whole),
+        )),
+  ),
+)
 lines_pass Infeasible (Some p) x r cuts nodes hp hx hr hc hn few wc wn = absurd hp
 lines_pass Infeasible None x r cuts nodes hp hx hr hc hn few wc wn =
     bound_pass Infeasible start cuts nodes
     (record { words_are = λ to_come. refl; told = refl; cuts = refl; splits = refl; leaves = refl }) hc hn wc wn (λ d whole broken. broken whole)
 lines_pass Unbounded None x r cuts nodes hp hx hr hc hn few wc wn = absurd hp
-lines_pass Unbounded (Some p) x r cuts nodes hp hx hr hc hn few wc wn =
-    (record { possible = inl refl; tree = λ t. t; narrow = (hp.0.den, hp.0.x); indexes = tt; few = λ t. t; enough = omega arith; in_order = tt },
-    blocks_then Unbounded _ Word.Ray 0 p.blocks (line_with Word.Ray r ∷ line_with Word.End [] ∷ []) refl
-    (record { words_are = λ to_come. refl; blocks_are = refl; told = refl; cuts = refl; splits = refl; leaves = refl }) (omega (arith, few)) hp.0.blocks
-    (λ b count h. (record {
-      possible = is_possible _ (Word.Block ∷ Word.Ray ∷ []) Word.Ray (h.words_are _) (inr (inl refl));
-      tree = λ t. t;
-      narrow = hr;
-      indexes = tt;
-      few = λ t. t;
-      enough = tt;
-      in_order = tt;
-    },
-    (record { possible = inl refl; tree = λ t. t; narrow = tt; indexes = tt; few = λ t. t; enough = refl; in_order = tt }, tt))))
+lines_pass Unbounded (Some p) x r cuts nodes hp hx hr hc hn few wc wn = (
+  record { possible = inl refl; tree = λ t. t; narrow = (hp.0.den, hp.0.x); indexes = tt; few = λ t. t; enough = omega arith; in_order = tt },
+  blocks_then Unbounded _ Word.Ray 0 p.blocks (line_with Word.Ray r ∷ line_with Word.End [] ∷ []) refl
+      (record { words_are = λ to_come. refl; blocks_are = refl; told = refl; cuts = refl; splits = refl; leaves = refl }) (omega (arith, few)) hp.0.blocks
+      (λ b count h. (
+        record {
+          possible = is_possible _ (Word.Block ∷ Word.Ray ∷ []) Word.Ray (h.words_are _) (inr (inl refl));
+          tree = λ t. t;
+          narrow = hr;
+          indexes = tt;
+          few = λ t. t;
+          enough = tt;
+          in_order = tt;
+        },
+        (record { possible = inl refl; tree = λ t. t; narrow = tt; indexes = tt; few = λ t. t; enough = refl; in_order = tt }, tt),
+      )),
+)
 
 -- the lines of a certificate pass
 pub cert_passes : (c : Certificate) → IsShaped c → IsWritable c → PassFrom c.verdict start (cert_lines c)

@@ -3,4 +3,5 @@ pub mod CertFaults
 pub mod CertPhases
 pub mod CertReading
 pub mod CertText
+pub mod CertWriting
 pub mod Shapes

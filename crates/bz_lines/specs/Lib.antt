@@ -6,5 +6,3 @@ pub mod Lines
 pub mod LinesBefore
 pub mod NameLists
 pub mod NumberedLines
-pub mod Reading
-pub mod SmallNumbers

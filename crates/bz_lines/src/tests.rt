@@ -1,11 +1,10 @@
 //! Worked lines.
-use crate::form::FormStop;
 use crate::reader::{Line, LineFault, Lines};
-use std::alloc::Global;
+use std::alloc::{AllocError, Global};
 use std::test::Fail;
 
 /// A line as text: its number's last digit, `H` or `D`, and each field behind a bar.
-fn show(shown: &mut Vec<u8>, line: &Line) -> Result<(), FormStop> {
+fn show(shown: &mut Vec<u8>, line: &Line) -> Result<(), AllocError> {
     shown.push(b'0' + (line.number % 10) as u8)?;
     shown.push(if line.header { b'H' } else { b'D' })?;
     for field in line.fields.as_slice() {
@@ -17,7 +16,7 @@ fn show(shown: &mut Vec<u8>, line: &Line) -> Result<(), FormStop> {
 }
 
 /// The lines of a text as text. A refused line is its number and `!`, and the count of all lines stands last.
-fn lines_of(alloc: Global, text: &[u8]) -> Result<Vec<u8>, FormStop> {
+fn lines_of(alloc: Global, text: &[u8]) -> Result<Vec<u8>, AllocError> {
     let mut shown = Vec::new(alloc);
     if text.len() > 100 {
         return Ok(shown);
@@ -31,7 +30,10 @@ fn lines_of(alloc: Global, text: &[u8]) -> Result<Vec<u8>, FormStop> {
                 shown.push(b'0' + (line % 10) as u8)?;
                 shown.push(b'!')?;
             }
-            Err(LineFault::OutOfMemory) => return Err(FormStop::OutOfMemory),
+            Err(LineFault::OutOfMemory) => {
+                shown.push(b'm')?;
+                break;
+            }
         }
     }
     shown.push(b'0' + (lines.number() % 10) as u8)?;
@@ -52,11 +54,8 @@ fn reads_worked_lines(rt: HostRuntime) -> Result<(), Fail> {
         (b"\x7f\xff a", b"1H|\x7f\xff|a;1"),
         (b"1 2 3 4 5 6 7 8 9 10", b"1H|1|2|3|4|5|6|7|8|9|10;1"),
     ] {
-        let shown = lines_of(rt.alloc(), text);
-        assert!(rt; shown.is_ok());
-        if let Ok(shown) = shown {
-            assert_eq!(rt; shown.as_slice(), lines);
-        }
+        let shown = lines_of(rt.alloc(), text)?;
+        assert_eq!(rt; shown.as_slice(), lines);
     }
     Ok(())
 }

@@ -1,19 +1,16 @@
 -- Fractions in lowest terms, and powers of ten.
-use Rattle.std.proofs.Common.{ℕ, zero, suc, ◌^◌, ◌*◌, ◌+◌, ◌-◌, ◌<◌, ◌≤◌, ℤ, pos, negsuc, ◌*ℤ◌, ◌+ℤ◌, ◌<ℤ◌, ◌≤ℤ◌, ◌≡◌, ◌≢◌, false, refl, sym, ap, ◌∙◌, subst, arith, mul-one}
+use Rattle.std.proofs.Common.{ℕ, zero, suc, ◌^◌, ◌*◌, ◌+◌, ◌<◌, ◌≤◌, ℤ, pos, negsuc, ◌*ℤ◌, ◌+ℤ◌, ◌<ℤ◌, ◌≤ℤ◌, ◌≡◌, ◌≢◌, false, refl, sym, ap, ◌∙◌, subst, arith, mul-one}
 use Rattle.std.specs.Prelude.{nat_le}
 use Rattle.std.specs.Int.{IsGcd, ◌∣◌}
 use Rattle.std.specs.Int.RustNames.{unsigned_abs}
-use Rattle.std.proofs.Math.IntN.{*ℤ_comm}
 use Rattle.std.proofs.Math.Nat.{dvd_of_mul-dvd-mul_left, mul-dvd-mul_left, eq-one_of_dvd-one, eq-zero_of_zero-dvd, pow-le-pow_right}
 use Rattle.std.proofs.lemmas.Int.{ints, unsigned_abs-mul}
 use Rattle.std.proofs.lemmas.Nat.{pow-add}
-use Rattle.bz_algebra.specs.Numbers.{IsNarrow}
 use Rattle.bz_algebra.proofs.Ring.{*ℤ_assoc, cancel_lt_left, cancel_right, mul_left, mul_right, mul_one, mul_zero, positive-ne}
 use Rattle.bz_num.specs.declared.Dec.{Dec}
 use Rattle.bz_num.specs.declared.Frac.{Frac}
 use Rattle.bz_num.specs.Decimals.{IsWithinLimits}
 use Rattle.bz_facts.specs.Spellings.{at_thirty, is_infinite}
-use Rattle.bz_facts.specs.SoundFacts.{IsFinite}
 use Rattle.bz_mps.specs.ColumnEnds.{IsFractionOf}
 use Rattle.bz_mps.specs.NumbersMade.{IsLowest}
 

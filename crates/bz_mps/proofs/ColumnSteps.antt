@@ -1,5 +1,5 @@
 -- One more column of a model.
-use Rattle.std.proofs.Common.{zero-add, zero, suc, ℕ, Bool, false, List, [], ◌∷◌, ◌++◌, ◌≡◌, take, drop, get_or, filter, map, ◌<◌, ◌+◌, subst, ap, sym, ◌∙◌, refl, arith, cond, true}
+use Rattle.std.proofs.Common.{zero-add, zero, suc, ℕ, Bool, false, List, [], ◌∷◌, ◌++◌, ◌≡◌, take, get_or, filter, ◌<◌, ◌+◌, subst, ap, sym, ◌∙◌, refl, arith, cond, true}
 use Rattle.std.specs.Prelude.{length, flat_map, ◌==◌}
 use Rattle.std.specs.List.{AllByRecursion, AllZip, enumerate_from, zip}
 use Rattle.std.specs.Option.{ForSome}
@@ -8,19 +8,22 @@ use Rattle.std.proofs.lemmas.List.{append-nil, take_more}
 use Rattle.std.proofs.lemmas.List.FromFn.{get_or-enumerate_from, length-enumerate_from}
 use Rattle.std.proofs.lemmas.Slice.Zip.{AllZip-long, get_or-zip}
 use Rattle.std.proofs.Math.Seq.{take-length}
-use Rattle.indexmap.proofs.SetLemmas.{AllZip-push}
 use Rattle.bz_lines.specs.FirstFault.{NoneFails}
 use Rattle.bz_model.specs.declared.Column.{Column}
 use Rattle.bz_facts.specs.declared.BoundLine.{BoundLine}
-use Rattle.bz_facts.specs.declared.Facts.{Facts}
 use Rattle.bz_facts.specs.declared.MpsStop.{MpsStop}
 use Rattle.bz_facts.specs.SoundFacts.{IsBoundAmong, IsFinite}
-use Rattle.bz_mps.specs.ByPlace.{AreByPlace}
 use Rattle.bz_mps.specs.ColumnEnds.{ends_by, lines_at}
 use Rattle.bz_mps.specs.FactModel.{IsColumnOf, IsColumnWith, end_tests_at_column, end_tests_of_column}
 use Rattle.bz_mps.specs.TestAnswers.{StopsAtFirst}
-use Rattle.bz_mps.proofs.PlacedItems.{items_there}
-use Rattle.bz_mps.proofs.TestLists.{none_append, numbered_at, stops_within, tests_at}
+use Rattle.bz_mps.proofs.TestLists.{none_append, stops_within, tests_at}
+
+-- one more pair of items of two lists
+pub zip_push : {A B : Type 0} (R : A → B → Type 0) (xs : List A) (ys : List B) (x : A) (y : B) → AllZip R xs ys → R x y → AllZip R (xs ++ x ∷ []) (ys ++ y ∷ [])
+zip_push R [] [] x y h k = (k, tt)
+zip_push R [] (b ∷ bs) x y h k = absurd h
+zip_push R (a ∷ rest) [] x y h k = absurd h
+zip_push R (a ∷ rest) (b ∷ bs) x y h k = (h.0, zip_push R rest bs x y h.1 k)
 
 -- what holds of all items holds of those that are kept
 pub all_kept : {X : Type 0} (P : X → Type 0) (keep : X → Bool) (xs : List X) → AllByRecursion P xs → AllByRecursion P (filter keep xs)
@@ -95,7 +98,7 @@ column_step R names flags i d old new c same within before is push =
     get_or-enumerate_from 0 (zip names flags) i (0, ([], d)) (omega arith) ∙ ap (λ k. (k, get_or (zip names flags) i ([], d))) (zero-add i) ∙ ap (λ z. (i, z)) (get_or-zip names flags i ([], d) (omega arith) within) in
     subst (λ cs. AllZip R (take (i + 1) (enumerate_from 0 (zip names flags))) cs) (sym push)
     (subst (λ ns. AllZip R ns (old ++ c ∷ [])) (sym (take_more (enumerate_from 0 (zip names flags)) i (0, ([], d)) (omega arith)))
-    (AllZip-push R (take i (enumerate_from 0 (zip names flags))) old _ c before (subst (λ e. R e c) (sym here) is)))
+    (zip_push R (take i (enumerate_from 0 (zip names flags))) old _ c before (subst (λ e. R e c) (sym here) is)))
 
 pub column_added : (bounds : List BoundLine) (names : List (List ℕ)) (marks all : List Bool) (lines : List BoundLine) (name : List ℕ) (i : ℕ) (old new : List Column) (column : Column)
     → length names ≡ length all → marks ≡ all → i < length marks → lines ≡ lines_at i bounds → name ≡ get_or names i []

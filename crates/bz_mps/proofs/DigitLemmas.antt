@@ -1,5 +1,5 @@
 -- The digits that decimals have behind their points.
-use Rattle.std.proofs.Common.{ℕ, suc, ◌^◌, ◌*◌, ◌+◌, ◌<◌, ◌≤◌, max, ℤ, pos, negsuc, ◌*ℤ◌, ◌+ℤ◌, ◌≡◌, refl, sym, ap, ◌∙◌, subst, arith, List, [], ◌∷◌, ◌++◌, map, Option, Some, None, fold}
+use Rattle.std.proofs.Common.{ℕ, ◌≤◌, max, ℤ, pos, negsuc, ◌≡◌, refl, sym, subst, arith, List, [], ◌∷◌, Option, Some, None, fold}
 use Rattle.std.specs.Prelude.{option_to_list}
 use Rattle.std.specs.Int.RustNames.{unsigned_abs}
 use Rattle.std.specs.List.{AllByRecursion}

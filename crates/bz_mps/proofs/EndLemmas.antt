@@ -1,5 +1,5 @@
 -- The bounds of a column and their tests.
-use Rattle.std.proofs.Common.{ℕ, zero, suc, ◌<◌, ◌+◌, ◌-◌, ◌^◌, ℤ, pos, ◌*ℤ◌, ◌<ℤ◌, ◌≤ℤ◌, ◌≡◌, refl, sym, ap, ◌∙◌, subst, arith, Bool, true, false, not, List, [], ◌∷◌, ◌++◌, take, get_or, Option, Some, None, Ordering, Less, Equal, Greater, fold}
+use Rattle.std.proofs.Common.{ℕ, zero, suc, ◌<◌, ◌+◌, ◌-◌, ◌^◌, ℤ, pos, ◌*ℤ◌, ◌<ℤ◌, ◌≡◌, refl, sym, ap, ◌∙◌, subst, arith, Bool, true, false, List, [], ◌∷◌, take, get_or, Option, Some, None, Ordering, Less, Equal, Greater, fold}
 use Rattle.std.specs.Prelude.{length, int_lt, slice_get}
 use Rattle.std.specs.List.{AllByRecursion, last_or}
 use Rattle.std.specs.Option.{ForSome}
@@ -9,7 +9,7 @@ use Rattle.std.proofs.lemmas.Int.{ints}
 use Rattle.std.proofs.lemmas.List.Sums.{fold_more}
 use Rattle.bz_algebra.proofs.Ring.{*ℤ_assoc, cancel_lt_right, cancel_right, mul_lt_right, mul_positive, mul_right, positive-ne}
 use Rattle.std.proofs.Math.IntN.{*ℤ_comm}
-use Rattle.bz_lines.specs.FirstFault.{IsFirstFailing, NoneFails}
+use Rattle.bz_lines.specs.FirstFault.{IsFirstFailing}
 use Rattle.bz_num.specs.declared.Dec.{Dec}
 use Rattle.bz_num.specs.declared.Frac.{Frac}
 use Rattle.bz_facts.specs.declared.BoundLine.{BoundLine}

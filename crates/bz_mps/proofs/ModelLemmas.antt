@@ -1,5 +1,5 @@
 -- The end tests of facts, part by part, and what a model that facts make has.
-use Rattle.std.proofs.Common.{ℕ, ◌<◌, ◌^◌, ◌≤◌, ◌+◌, ◌≡◌, ◌∙◌, refl, suc, not, sym, ap, subst, arith, ℤ, pos, ◌<ℤ◌, Bool, List, [], ◌∷◌, ◌++◌, map, filter, cond, true, false}
+use Rattle.std.proofs.Common.{ℕ, ◌<◌, ◌^◌, ◌≤◌, ◌+◌, ◌≡◌, refl, suc, not, sym, ap, subst, arith, ℤ, pos, ◌<ℤ◌, Bool, List, [], ◌∷◌, map, filter, cond, true, false}
 use Rattle.std.specs.Prelude.{flat_map, length, nat_lt, ◌==◌}
 use Rattle.std.specs.Int.RustNames.{unsigned_abs}
 use Rattle.std.specs.List.{AllByRecursion, AllZip, enumerate_from}

@@ -1,16 +1,15 @@
 -- The rows and the objective of a model, one by one.
-use Rattle.std.proofs.Common.{zero-add, ℕ, zero, suc, ◌<◌, ◌≤◌, ◌+◌, ◌^◌, ◌≡◌, refl, sym, ap, ◌∙◌, subst, arith, true≢false, is_some, lt-ltb, Bool, true, false, not, ◌||◌, cond, if◌then◌else◌, List, [], ◌∷◌, ◌++◌, append_assoc, map, filter, take, drop, get_or, eqb-true, eq-eqb, Option, Some, None}
-use Rattle.std.specs.Prelude.{length, find, slice_get, ◌==◌, ◌&&◌, Result, Ok, Err, IfOk}
+use Rattle.std.proofs.Common.{ℕ, suc, ◌<◌, ◌≤◌, ◌+◌, ◌≡◌, refl, sym, ap, ◌∙◌, subst, arith, true≢false, is_some, lt-ltb, Bool, true, false, not, ◌||◌, cond, if◌then◌else◌, List, [], ◌∷◌, ◌++◌, map, filter, take, drop, get_or, eqb-true, eq-eqb, Option, Some, None}
+use Rattle.std.specs.Prelude.{length, find, slice_get, ◌==◌, ◌&&◌, Result, IfOk}
 use Rattle.std.specs.List.{AllByRecursion, AllZip, IsDistinct, enumerate_from, list_any, position, position_or_len}
-use Rattle.std.specs.Option.{ForSome, option_map, option_to_list, unwrap_or}
+use Rattle.std.specs.Option.{option_map, option_to_list, unwrap_or}
 use Rattle.std.proofs.Math.IntN.{neg_ℤ}
 use Rattle.std.proofs.Math.Seq.{take-length}
 use Rattle.std.proofs.lemmas.Bool.{eqb-false}
 use Rattle.std.proofs.lemmas.List.{append-nil, get_or_default, length-map, map-append, take_more}
 use Rattle.std.proofs.lemmas.List.Elements.{filter-append}
-use Rattle.std.proofs.lemmas.List.FromFn.{get_or-enumerate_from, length-enumerate_from}
+use Rattle.std.proofs.lemmas.List.FromFn.{length-enumerate_from}
 use Rattle.std.proofs.lemmas.Map.Keys.{IsDistinct-head, IsDistinct-tail}
-use Rattle.indexmap.proofs.SetLemmas.{AllZip-push}
 use Rattle.bz_lines.specs.FirstFault.{IsFirstFailing, NoneFails}
 use Rattle.bz_model.specs.declared.Row.{Row}
 use Rattle.bz_num.specs.declared.Dec.{Dec}
@@ -18,7 +17,6 @@ use Rattle.bz_num.specs.Decimals.{IsWithinLimits}
 use Rattle.bz_facts.specs.declared.Entry.{Entry}
 use Rattle.bz_facts.specs.declared.Facts.{Facts}
 use Rattle.bz_facts.specs.declared.Given.{Given}
-use Rattle.bz_facts.specs.declared.MpsFault.{MpsFault}
 use Rattle.bz_facts.specs.declared.MpsKind.TheVariants.{TooWide}
 use Rattle.bz_facts.specs.declared.RowType.{RowType}
 use Rattle.bz_facts.specs.LineTests.{is_free, is_same_entry}
@@ -30,8 +28,7 @@ use Rattle.bz_mps.specs.declared.rows_made.Objective.{Objective}
 use Rattle.bz_mps.specs.ByPlace.{AreByPlace}
 use Rattle.bz_num.specs.Fold.{is_wide}
 use Rattle.bz_mps.specs.ScaledRows.{Scaled, constraints, decimals_of, entries_at, given_at, has_wide_term, is_wide_objective, is_wide_row, most_digits, objective_entries, objective_side, right_side_at, row_at, scaled, scaled_row, terms_by}
-use Rattle.bz_mps.proofs.ColumnSteps.{all_kept, all_weaker}
-use Rattle.bz_mps.proofs.EndLemmas.{fails_first}
+use Rattle.bz_mps.proofs.ColumnSteps.{all_kept, all_weaker, zip_push}
 use Rattle.bz_mps.proofs.TestLists.{none_append, numbered_at, split_at}
 
 -- The first row of kind N.
@@ -169,7 +166,7 @@ pub row_added : (f : Facts) (i : ℕ) (t : RowType) (old new : List Row) (row : 
 row_added f i t old new row h e free rows is push =
     subst (λ rs. AllZip (IsRowOf f) (filter (λ r. not (is_free r.1)) (take (i + 1) (enumerate_from 0 f.row_types))) rs) (sym push)
     (subst (λ ns. AllZip (IsRowOf f) ns (old ++ row ∷ [])) (sym (next_added f.row_types i t h e free))
-    (AllZip-push (IsRowOf f) (filter (λ r. not (is_free r.1)) (take i (enumerate_from 0 f.row_types))) old (i, t) row rows is))
+    (zip_push (IsRowOf f) (filter (λ r. not (is_free r.1)) (take i (enumerate_from 0 f.row_types))) old (i, t) row rows is))
 
 pub row_passes : (f : Facts) (i : ℕ) (t : RowType) → i < length f.row_types → t ≡ get_or f.row_types i t → is_free t ≡ false
     → NoneFails (map (end_test_at_row f) (filter (λ r. not (is_free r.1)) (take i (enumerate_from 0 f.row_types)))) → is_wide_row (row_at f (i, t)) ≡ false

@@ -1,10 +1,9 @@
 -- Decimals as whole numbers, a power of ten as large.
-use Rattle.std.proofs.Common.{ℕ, zero, suc, ◌^◌, ◌*◌, ◌+◌, ◌<◌, ◌≤◌, ℤ, pos, negsuc, ◌*ℤ◌, ◌+ℤ◌, ◌<ℤ◌, ◌≤ℤ◌, ◌≡◌, refl, sym, ap, ◌∙◌, subst, arith, mul-le-mul, mul_comm, one-mul}
+use Rattle.std.proofs.Common.{ℕ, suc, ◌^◌, ◌*◌, ◌<◌, ◌≤◌, ℤ, pos, negsuc, ◌+ℤ◌, ◌≤ℤ◌, ◌≡◌, refl, arith}
 use Rattle.std.specs.Int.RustNames.{unsigned_abs}
 use Rattle.std.proofs.Math.Nat.{mul-le-mul_right, pow-le-pow_right}
 use Rattle.std.proofs.lemmas.Int.{ints, unsigned_abs-mul}
 use Rattle.bz_num.specs.declared.Dec.{Dec}
-use Rattle.bz_mps.specs.NumbersMade.{IsScalable}
 use Rattle.bz_mps.specs.ScaledRows.{digits_behind_point, scaled}
 
 -- the exponent and the digits together are not negative

@@ -1,26 +1,20 @@
 -- The terms of a row.
-use Rattle.std.proofs.Common.{ℕ, zero, suc, ◌<◌, ◌≤◌, ◌+◌, ◌*◌, ◌^◌, ℤ, pos, ◌*ℤ◌, ◌+ℤ◌, ◌≡◌, refl, sym, ap, ◌∙◌, subst, arith, Bool, true, false, not, ◌||◌, cond, List, [], ◌∷◌, ◌++◌, map, filter, take, drop, get_or, eqb-true, nat_lt, nat_le}
-use Rattle.std.specs.Prelude.{length, ◌==◌, ◌&&◌}
+use Rattle.std.proofs.Common.{ℕ, zero, suc, ◌<◌, ◌≤◌, ◌+◌, ◌*◌, ◌^◌, ℤ, pos, ◌+ℤ◌, ◌≡◌, refl, ap, ◌∙◌, arith, Bool, true, false, ◌||◌, cond, List, [], ◌∷◌, ◌++◌, map, filter, take, drop, get_or, nat_lt, nat_le}
+use Rattle.std.specs.Prelude.{length}
 use Rattle.std.specs.Int.RustNames.{unsigned_abs}
-use Rattle.std.specs.List.{AllByRecursion, IsDistinct, list_any}
-use Rattle.std.proofs.lemmas.Bool.{eqb-false}
 use Rattle.std.proofs.lemmas.Int.{unsigned_abs-mul}
 use Rattle.std.proofs.lemmas.List.{map-append}
 use Rattle.std.proofs.lemmas.List.Elements.{filter-append}
 use Rattle.std.proofs.lemmas.List.Folds.{list_any-append}
-use Rattle.std.proofs.lemmas.Map.Keys.{IsDistinct-head, IsDistinct-tail}
 use Rattle.std.proofs.Math.Nat.{mul-le-mul_left}
 use Rattle.bz_algebra.specs.Numbers.{IsNarrow}
-use Rattle.bz_algebra.specs.Sums.{AllBelow}
 use Rattle.bz_num.specs.Fold.{is_wide}
-use Rattle.bz_num.specs.Row.{IsEntryFrom, IsSparseFrom}
+use Rattle.bz_num.specs.Row.{IsSparseFrom}
 use Rattle.bz_num.specs.declared.Dec.{Dec}
 use Rattle.bz_facts.specs.declared.Entry.{Entry}
-use Rattle.bz_facts.specs.LineTests.{is_same_entry}
-use Rattle.bz_facts.specs.SoundFacts.{NeverFallFrom}
 use Rattle.bz_mps.specs.NumbersMade.{IsScalable}
 use Rattle.bz_mps.specs.RowsMade.{AreScalable, RiseFrom}
-use Rattle.bz_mps.specs.ScaledRows.{entries_at, has_wide_term, scaled, terms_by}
+use Rattle.bz_mps.specs.ScaledRows.{has_wide_term, scaled, terms_by}
 use Rattle.bz_mps.proofs.BoundNumbers.{power_some}
 use Rattle.bz_mps.proofs.TestLists.{split_at}
 
@@ -52,7 +46,7 @@ wide_at k es i d h w =
     ∙ ap has_wide_term (terms_append k (take i es) (get_or es i d ∷ drop (i + 1) es) ∙ ap (λ ts. terms_by k (take i es) ++ ts) (terms_append k (get_or es i d ∷ []) (drop (i + 1) es)))
     ∙ wide_append (terms_by k (take i es)) (terms_by k (get_or es i d ∷ []) ++ terms_by k (drop (i + 1) es))
     ∙ or_right (has_wide_term (terms_by k (take i es))) _
-        (wide_append (terms_by k (get_or es i d ∷ [])) (terms_by k (drop (i + 1) es)) ∙ or_left _ (has_wide_term (terms_by k (drop (i + 1) es))) w)
+    (wide_append (terms_by k (get_or es i d ∷ [])) (terms_by k (drop (i + 1) es)) ∙ or_left _ (has_wide_term (terms_by k (drop (i + 1) es))) w)
 
 rise_below : (low c : ℕ) (es : List Entry) → low ≤ c → RiseFrom (suc c) es → RiseFrom low es
 rise_below low c [] le h = tt

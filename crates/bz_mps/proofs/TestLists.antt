@@ -1,6 +1,6 @@
 -- Lists of tests: none fails, or the first that does.
-use Rattle.std.proofs.Common.{ℕ, ◌+◌, ◌<◌, ◌≡◌, refl, sym, ap, ◌∙◌, subst, zero-add, add-one, Bool, true, false, List, [], ◌∷◌, ◌++◌, append_assoc, take, drop, get_or, take-append-drop}
-use Rattle.std.specs.Prelude.{length, flat_map, map, Result, Ok, Err, IsErrAnd}
+use Rattle.std.proofs.Common.{ℕ, ◌+◌, ◌<◌, ◌≡◌, sym, ap, ◌∙◌, subst, zero-add, add-one, Bool, true, List, [], ◌∷◌, ◌++◌, append_assoc, take, drop, get_or, take-append-drop}
+use Rattle.std.specs.Prelude.{length, flat_map, Result, Ok, Err, IsErrAnd}
 use Rattle.std.specs.List.{enumerate_from}
 use Rattle.std.proofs.lemmas.Grind.{flat_map-append}
 use Rattle.std.proofs.lemmas.List.{append-nil}

@@ -1,14 +1,8 @@
 pub mod ByPlace
 pub mod ColumnEnds
-pub mod ColumnReading
 pub mod FactModel
 pub mod LeastScale
-pub mod LineReading
-pub mod ModelReading
-pub mod ModelText
 pub mod NumbersMade
-pub mod ReadSections
 pub mod RowsMade
 pub mod ScaledRows
-pub mod Sections
 pub mod TestAnswers

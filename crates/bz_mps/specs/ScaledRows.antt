@@ -1,5 +1,5 @@
 -- The rows and the objective of a model, each multiplied by the least power of ten that makes its numbers whole.
-use Rattle.std.specs.Prelude.{ℕ, ℤ, pos, ◌^◌, ◌*ℤ◌, ◌+ℤ◌, ◌-ℤ◌, Bool, false, ◌||◌, ◌==◌, not, int_lt, nat_lt, max, fold, filter, find, map, List, [], ◌∷◌, ◌++◌, Option, Some, None, option_map, option_to_list, unwrap_or, if◌then◌else◌}
+use Rattle.std.specs.Prelude.{ℕ, ℤ, pos, ◌^◌, ◌*ℤ◌, ◌+ℤ◌, ◌-ℤ◌, Bool, false, ◌||◌, ◌==◌, not, int_lt, nat_lt, max, fold, filter, find, map, List, ◌∷◌, ◌++◌, Option, Some, None, option_map, option_to_list, unwrap_or, if◌then◌else◌}
 use Rattle.std.specs.Int.RustNames.{unsigned_abs}
 use Rattle.std.specs.List.{enumerate_from, list_any, position_or_len}
 use Rattle.std.proofs.Math.IntN.{neg_ℤ}

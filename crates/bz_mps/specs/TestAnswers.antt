@@ -1,5 +1,5 @@
 -- What a maker of models answers to end tests.
-use Rattle.std.specs.Prelude.{Bool, List, Option, Result, Ok, Err}
+use Rattle.std.specs.Prelude.{Bool, List, Result, Ok, Err}
 use Rattle.std.specs.Option.{ForSome}
 use Rattle.bz_lines.specs.FirstFault.{IsFirstFailing, NoneFails}
 use Rattle.bz_facts.specs.declared.MpsFault.{MpsFault}

@@ -86,9 +86,7 @@ pub(crate) fn ends_of(marked: bool, lines: &[BoundLine]) -> Ends
 fn make_integer(lines: &[BoundLine]) -> bool
     ensures { result ≡ list_any (λ b. makes_integer b.kind) lines.now }
 {
-    lines.iter().any(|line| {
-        matches!(line.kind, BoundType::Bv | BoundType::Li | BoundType::Ui)
-    })
+    lines.iter().any(|line| { matches!(line.kind, BoundType::Bv | BoundType::Li | BoundType::Ui) })
 }
 
 /// Whether a column with these bound lines is an integer.
@@ -102,9 +100,7 @@ pub(crate) fn is_integer(marked: bool, lines: &[BoundLine]) -> bool
 fn speak_of_lower(lines: &[BoundLine]) -> bool
     ensures { result ≡ list_any (λ b. speaks_of_lower b.kind) lines.now }
 {
-    lines.iter().any(|line| {
-        !matches!(line.kind, BoundType::Up | BoundType::Ui | BoundType::Pl)
-    })
+    lines.iter().any(|line| { !matches!(line.kind, BoundType::Up | BoundType::Ui | BoundType::Pl) })
 }
 
 /// Whether the bound is there and below zero.

@@ -83,12 +83,7 @@ fn upper_of(kind: RowType, side: i128, digits: u32, range: Option<Dec>) -> Optio
 }
 
 /// The sides of a row with this right side and range, 10^digits times as large, and none where one is wide.
-pub(crate) fn sides_of(
-    kind: RowType,
-    digits: u32,
-    rhs: Dec,
-    range: Option<Dec>,
-) -> Option<Sides>
+pub(crate) fn sides_of(kind: RowType, digits: u32, rhs: Dec, range: Option<Dec>) -> Option<Sides>
     requires kind { is_free kind ≡ false }
     requires rhs { IsScalable digits rhs }
     requires range { ForSome range (IsScalable digits) }

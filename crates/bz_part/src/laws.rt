@@ -2,13 +2,7 @@
 ghost use Rattle.std.specs.Prelude.{ℕ, List, ◌≡◌, ◌⊎◌};
 ghost use Rattle.bz_model.specs.declared.Model.{Model};
 ghost use Rattle.bz_part.specs.declared.faults.PartKind.{PartKind as Kind};
-ghost use Rattle.bz_part.specs.PartText.{IsPartText};
 ghost use Rattle.bz_part.specs.Partition.{PartFault, PartOf};
-
-/// A text says at most one partition of a model. Nothing runs.
-pub fn text_has_one_partition()
-    ensures { (text : List ℕ) (m : Model) (p q : List ℕ) → IsPartText text m p → IsPartText text m q → p ≡ q }
-{}
 
 /// A text says one partition of a model, or it has one fault, and never both. Nothing runs.
 pub fn text_has_one_reading()

@@ -6,16 +6,15 @@ ghost use Rattle.std.specs.Str.Parse.{digits_value};
 ghost use Rattle.bz_lines.specs.LineReader.{to_come};
 ghost use Rattle.bz_lines.specs.LineReading.{read_line};
 ghost use Rattle.bz_lines.specs.NameLists.{is_among};
+ghost use Rattle.bz_model.specs.Parting.{blocks_of};
 ghost use Rattle.bz_model.specs.Strict.{IsPartition};
 ghost use Rattle.bz_part.specs.declared.faults.PartStop.TheVariants.{Fault};
-ghost use Rattle.bz_part.specs.Partition.{HasNoGap, IsGap, ReadsPartition, names_of};
+ghost use Rattle.bz_part.specs.Partition.{HasNoGap, IsGap, ReadsPartition};
 ghost use Rattle.bz_part.specs.PartitionLines.{column_tests, head_tests, is_digit as digit_test, is_number as number_test, name_on, number_on};
 ghost use Rattle.bz_part.specs.PartitionSteps.{ReadsColumn, ReadsColumns, ReadsHead, Tested, number_tests};
 
 use crate::faults::{PartFault, PartKind, PartStop};
 use crate::numbers::ColumnNumbers;
-use crate::reading::column_names;
-use crate::strict::greatest;
 use bz_lines::{Line, Lines, Names};
 use bz_model::{Column, Model};
 use std::alloc::{AllocError, Global};
@@ -116,6 +115,17 @@ fn number_on_head(line: &Line) -> Result<u32, PartKind>
     number_or(digits, PartKind::Head)
 }
 
+/// The names of the columns.
+fn column_names(alloc: Global, columns: &[Column]) -> Result<Names<'_>, AllocError>
+    ensures { IfOk result (λ names. (name : List ℕ) → is_among names name ≡ is_among (map (λ c. c.name) columns.now) name) }
+{
+    let mut names = Names::new(alloc);
+    for column in columns {
+        names.add(column.name.as_slice())?;
+    }
+    Ok(names)
+}
+
 /// The column that a later line names, and its number.
 fn column_on<'a>(
     line: &Line<'a>,
@@ -206,6 +216,19 @@ fn parts_by(
     Ok(part)
 }
 
+/// The number of blocks: the greatest number of the partition.
+fn greatest(part: &[u32]) -> u32
+    ensures { result ≡ blocks_of part.now }
+{
+    let mut most = 0;
+    for b in part {
+        if most < *b {
+            most = *b;
+        }
+    }
+    most
+}
+
 /// Whether a column is in the block.
 fn has(part: &[u32], block: u32) -> bool
     ensures { IsTrue result ↔ Contains part.now block }
@@ -228,7 +251,7 @@ fn first_gap(part: &[u32]) -> Option<u32>
 /// The partition of a text: the part of each column, 0 for the master and the number of its block for every other. A
 /// text that says no partition has a fault: that of the first line that fails, or, behind all lines, of the least block
 /// below the greatest number that has no column.
-pub fn read_partition(alloc: Global, text: &[u8], model: &Model) -> Result<Vec<u32>, PartStop>
+pub fn read_part(alloc: Global, text: &[u8], model: &Model) -> Result<Vec<u32>, PartStop>
     requires { length text.now < 2 ^ 32 - 1 }
     ensures reads { ReadsPartition (λ part. part.items) text.now model.now result }
     ensures partition { IfOk result (λ part. IsPartition model.now part.items) }

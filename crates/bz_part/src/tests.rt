@@ -1,23 +1,16 @@
-//! Worked texts: minimise x + 2 y with x + y >= 1, x an integer from 0 to 1, y at least 0, and y in block 1.
-ghost use Rattle.std.specs.Prelude.{◌≡◌, ◌<◌, IfOk, length};
+//! Worked texts of partitions: minimise x + 2 y with x + y >= 1, x an integer from 0 to 1, and y at least 0.
+ghost use Rattle.std.specs.Prelude.{◌<◌};
 ghost use Rattle.std.specs.Int.RustNames.{unsigned_abs};
-ghost use Rattle.std.specs.List.{AllByRecursion};
 ghost use Rattle.bz_algebra.specs.Numbers.{IsNarrow};
-ghost use Rattle.bz_algebra.specs.Sums.{AllBelow};
-ghost use Rattle.bz_model.specs.Strict.{HasItsColumns};
 
 use crate::faults::{PartFault, PartKind, PartStop};
-use crate::part_text::read_partition;
-use crate::reading::read_part;
-use bz_lines::FormStop;
+use crate::part_text::read_part;
 use bz_model::{Column, Model, Row};
 use bz_num::{Frac, Items, Name, SparseRow};
-use std::alloc::Global;
+use std::alloc::{AllocError, Global};
 use std::test::Fail;
 
-fn columns(alloc: Global) -> Result<Items<Column>, FormStop>
-    ensures { IfOk result (λ columns. length columns ≡ 2) }
-{
+fn columns(alloc: Global) -> Result<Items<Column>, AllocError> {
     let x = Column {
         name: Name::from_vec(Vec::from_slice(alloc, b"x")?),
         integer: true,
@@ -36,10 +29,9 @@ fn columns(alloc: Global) -> Result<Items<Column>, FormStop>
     Ok(Items::from_vec(columns))
 }
 
-fn pairs(alloc: Global, first: i128, second: i128) -> Result<SparseRow, FormStop>
+fn pairs(alloc: Global, first: i128, second: i128) -> Result<SparseRow, AllocError>
     requires some { (0 < unsigned_abs first) × (0 < unsigned_abs second) }
     requires narrow { IsNarrow first × IsNarrow second }
-    ensures { IfOk result (AllBelow 2) }
 {
     let mut pairs = Vec::with_capacity(alloc, 2)?;
     pairs.push((0, first))?;
@@ -47,9 +39,7 @@ fn pairs(alloc: Global, first: i128, second: i128) -> Result<SparseRow, FormStop
     Ok(SparseRow::from_vec(pairs))
 }
 
-fn rows(alloc: Global) -> Result<Items<Row>, FormStop>
-    ensures { IfOk result (AllByRecursion (λ row. AllBelow 2 row.terms)) }
-{
+fn rows(alloc: Global) -> Result<Items<Row>, AllocError> {
     let link = Row {
         name: Name::from_vec(Vec::from_slice(alloc, b"LINK")?),
         terms: pairs(alloc, 1, 1)?,
@@ -61,9 +51,7 @@ fn rows(alloc: Global) -> Result<Items<Row>, FormStop>
     Ok(Items::from_vec(rows))
 }
 
-fn worked(alloc: Global) -> Result<Model, FormStop>
-    ensures { IfOk result HasItsColumns }
-{
+fn worked(alloc: Global) -> Result<Model, AllocError> {
     Ok(Model {
         columns: columns(alloc)?,
         rows: rows(alloc)?,
@@ -75,47 +63,11 @@ fn worked(alloc: Global) -> Result<Model, FormStop>
     })
 }
 
-#[test]
-fn reads_the_worked_partition(rt: HostRuntime) -> Result<(), Fail> {
-    if let Ok(model) = worked(rt.alloc()) {
-        let read = read_part(rt.alloc(), b"cpxBendersPartition 1\nx 0\n", &model);
-        assert!(rt; read.is_ok());
-        if let Ok(part) = read {
-            assert_eq!(rt; part.as_slice(), [0, 1].as_slice());
-        }
-        assert!(rt; read_part(rt.alloc(), b"\n\t cpxBendersPartition 1\r\n\nx\t0", &model).is_ok());
-    }
-    Ok(())
-}
-
-#[test]
-fn refuses_other_partitions(rt: HostRuntime) {
-    if let Ok(model) = worked(rt.alloc()) {
-        for text in [
-            b"".as_slice(),
-            b"cpxBendersPartition 1\n".as_slice(),
-            b"cpxBendersPartition 1\nx 0\nx 0\n".as_slice(),
-            b"cpxBendersPartition 1\nx 0\nz 0\n".as_slice(),
-            b"* a comment\ncpxBendersPartition 1\nx 0\n".as_slice(),
-            b"cpxBendersPartition 2\nx 0\n".as_slice(),
-            b"cpxBendersPartition 1\nx 1\n".as_slice(),
-            b"cpxBendersPartition 1\ny 0\n".as_slice(),
-            b"cpxBendersPartition 1\nx 0\ny 0\n".as_slice(),
-            b"cpxBendersPartition 1\nx 0 0\n".as_slice(),
-        ] {
-            match read_part(rt.alloc(), text, &model) {
-                Ok(_) => assert!(rt; false),
-                Err(stop) => assert_eq!(rt; stop, FormStop::Outside),
-            }
-        }
-    }
-}
-
 fn read(alloc: Global, text: &[u8], model: &Model) -> Result<Vec<u32>, PartStop> {
     if text.len() > 100 {
         return Err(PartStop::OutOfMemory);
     }
-    read_partition(alloc, text, model)
+    read_part(alloc, text, model)
 }
 
 #[test]

@@ -1,7 +1,8 @@
-//! The split of a model by a partition of its columns, and why there may be none.
+//! The split of a model by a partition of its columns, why there may be none, and how many rows each part has.
 #![tactic(auto)]
 
 mod columns;
+mod counts;
 mod faults;
 mod laws;
 mod rows;
@@ -10,6 +11,7 @@ mod splitting;
 #[cfg(test)]
 mod tests;
 
+pub use counts::rows_by_part;
 pub use faults::{SplitFault, Unsplit};
 pub use laws::split_faults_are_unique;
 pub use splitting::split;

@@ -98,7 +98,7 @@ fn size(model: &Model, part: &[u32], b: u32) -> u32
 }
 
 /// The number of blocks: the greatest number of the partition.
-fn greatest(part: &[u32]) -> u32
+pub fn greatest(part: &[u32]) -> u32
     ensures { result ≡ blocks_of part.now }
 {
     let mut most = 0;

@@ -4,7 +4,7 @@ ghost use Rattle.std.specs.List.{AllByRecursion};
 ghost use Rattle.bz_algebra.specs.Sums.{AllBelow};
 ghost use Rattle.bz_model.specs.Strict.{HasItsColumns};
 
-use crate::{SplitFault, split};
+use crate::{SplitFault, rows_by_part, split};
 use bz_model::{Column, Model, Row};
 use bz_num::{Frac, Items, Name, OutOfMemory, SparseRow};
 use std::alloc::Global;
@@ -182,5 +182,28 @@ fn counts_the_box_of_an_integer_column(rt: HostRuntime) -> Result<(), Fail> {
         count: 1025,
     };
     assert_eq!(rt; fault_of(alloc, x, y, false, 1023)?, Some(fault));
+    Ok(())
+}
+
+/// How many rows the master, block 1 and block 2 have in the model of these rows, where there are three numbers.
+fn counts_of(alloc: Global, joins: bool, of_x: usize) -> Result<Option<[u32; 3]>, OutOfMemory>
+    requires { of_x < 2 ^ 16 }
+{
+    let x = column(alloc, true, true)?;
+    let y = column(alloc, false, false)?;
+    let model = model(alloc, x, y, joins, of_x)?;
+    let counts = rows_by_part(alloc, &model, &[0, 2, 1])?;
+    match counts.as_slice() {
+        [master, first, second] => Ok(Some([*master, *first, *second])),
+        _ => Ok(None),
+    }
+}
+
+#[test]
+fn counts_rows_by_part(rt: HostRuntime) -> Result<(), Fail> {
+    let alloc = rt.alloc();
+    assert_eq!(rt; counts_of(alloc, false, 0)?, Some([0, 1, 1]));
+    assert_eq!(rt; counts_of(alloc, false, 3)?, Some([3, 1, 1]));
+    assert_eq!(rt; counts_of(alloc, true, 1)?, Some([1, 1, 2]));
     Ok(())
 }

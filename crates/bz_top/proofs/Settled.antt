@@ -231,8 +231,8 @@ module _ (laws : AreExclusive) where
           let passes : Passes r.split.model r.split.part p.certificate = subst (λ (d : Decomposition). Passes d.model d.part p.certificate) same p.passes in
           let fits : Fits r.split.model r.split.part p.certificate = subst (λ (d : Decomposition). Fits d.model d.part p.certificate) same p.fits in
           laws.check r.split r.certificate f (decomposed r.split r.accepted) r.is_fault
-              (subst (λ (c : Certificate). Passes r.split.model r.split.part c) same_cert passes)
-              (subst (λ (c : Certificate). Fits r.split.model r.split.part c) same_cert fits);
+          (subst (λ (c : Certificate). Passes r.split.model r.split.part c) same_cert passes)
+          (subst (λ (c : Certificate). Fits r.split.model r.split.part c) same_cert fits);
     };
     status_is = refl;
   }

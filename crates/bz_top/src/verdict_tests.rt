@@ -21,23 +21,47 @@ const CHANGES: [(&str, &str, &str); 17] = [
     ("split 0 0 1", "split 0 0 2", "certificate: Cover 0\n"),
     // no integer column stands there
     ("split 0 0 1", "split 1 0 1", "certificate: Cover 0\n"),
-    ("master 1 1", "master +1 1", "certificate line 3: 4 Number\n"),
-    ("master 1 1", "master 01 1", "certificate line 3: 4 Number\n"),
+    (
+        "master 1 1",
+        "master +1 1",
+        "certificate line 3: 4 Number\n",
+    ),
+    (
+        "master 1 1",
+        "master 01 1",
+        "certificate line 3: 4 Number\n",
+    ),
     ("value 2", "value -0", "certificate line 6: 4 Number\n"),
     // the last line is missing
     ("end\n", "", "certificate line 12: 7 End\n"),
     // one leaf is missing
     ("leaf 1 2 2 1 2 2 1\n", "", "certificate line 12: 6 Tree\n"),
     // one leaf too many
-    ("end\n", "leaf 1 2 2 1 2 2 1\nend\n", "certificate line 13: 6 Tree\n"),
+    (
+        "end\n",
+        "leaf 1 2 2 1 2 2 1\nend\n",
+        "certificate line 13: 6 Tree\n",
+    ),
     ("end\n", "end x\n", "certificate line 13: 4 Number\n"),
     ("value 2", "value 2 2", "certificate line 6: 3 Line\n"),
-    ("leaf 1 3 2 0 4 3 1", "leaf 0 1 1 -2", "certificate line 11: 4 Number\n"),
+    (
+        "leaf 1 3 2 0 4 3 1",
+        "leaf 0 1 1 -2",
+        "certificate line 11: 4 Number\n",
+    ),
     ("cuts 2", "cuts 65536", "certificate line 7: 8 Limit\n"),
     // the inner cost of the block is above its eta
-    ("eta 0\nblock 1 1 0\nvalue 2", "eta 0\nblock 1 1 1\nvalue 2", "certificate: Cost 1\n"),
+    (
+        "eta 0\nblock 1 1 0\nvalue 2",
+        "eta 0\nblock 1 1 1\nvalue 2",
+        "certificate: Cost 1\n",
+    ),
     // a factor of a block that makes a product wide
-    ("block 1 1 0", "block 1 170141183460469231731687303715884105727 0", "certificate: Wide 5 0\n"),
+    (
+        "block 1 1 0",
+        "block 1 170141183460469231731687303715884105727 0",
+        "certificate: Wide 5 0\n",
+    ),
     ("master 1 1", "master 2 2", "certificate: Value\n"),
 ];
 
@@ -47,7 +71,11 @@ fn checks_a_tree_of_two_leaves(rt: HostRuntime) -> Result<(), Fail> {
         let cert = TWO_LEAVES.replace(rt.alloc(), old, new)?;
         let case = Case {
             model: MODEL,
-            cert: if old.is_empty() { TWO_LEAVES } else { cert.as_str() },
+            cert: if old.is_empty() {
+                TWO_LEAVES
+            } else {
+                cert.as_str()
+            },
             ..FIRST
         };
         let (_, printed) = ends(rt.alloc(), &["check", "m", "p", "c"], &case)?;
@@ -66,13 +94,17 @@ const NO_POINT: &str =
 
 const EMPTY_LEAF: &str = "bzcert 1\nverdict infeasible\ncuts 0\nleaf 0 1 2 0 1 1 1\nend\n";
 
-const FALLS: &str =
-    "bzcert 1\nverdict unbounded\nmaster 1 1\nblock 1 1 0\nray 0 1\nend\n";
+const FALLS: &str = "bzcert 1\nverdict unbounded\nmaster 1 1\nblock 1 1 0\nray 0 1\nend\n";
 
 #[test]
 fn checks_the_other_verdicts(rt: HostRuntime) -> Result<(), Fail> {
     let all: [(&str, &str, Status, &str); 7] = [
-        (NO_POINT, EMPTY_LEAF, Status::Done, "certificate holds: infeasible\n"),
+        (
+            NO_POINT,
+            EMPTY_LEAF,
+            Status::Done,
+            "certificate holds: infeasible\n",
+        ),
         (RAY, FALLS, Status::Done, "certificate holds: unbounded\n"),
         // with the right side 1 of row B the sides add up to 0 <= 0
         (RAY, EMPTY_LEAF, Status::Cert, "certificate: Leaf 0\n"),

@@ -1,4 +1,4 @@
-use Rattle.std.proofs.Common.{arith, rules, sym, subst, ap, ◌∙◌, ℤ, pos, ◌<◌, ◌<ℤ◌, ◌≤ℤ◌, FitsSigned, to_z-of_z, ◌≡◌, ◌*ℤ◌, ◌≤◌, ◌^◌}
+use Rattle.std.proofs.Common.{arith, rules, ap, ◌∙◌, pos, ◌<◌, ◌<ℤ◌, ◌≤ℤ◌, FitsSigned, to_z-of_z, ◌≡◌, ◌*ℤ◌, ◌≤◌, ◌^◌}
 use Rattle.std.proofs.lemmas.Int.{ints}
 use Rattle.std.specs.Int.{w128, w32}
 use Rattle.std.specs.Int.RustNames.{unsigned_abs}

@@ -1,5 +1,4 @@
-use Rattle.std.proofs.Common.{arith, rules, pos, ◌<ℤ◌, FitsSigned, to_z-of_z, ◌≡◌, ◌*ℤ◌}
-use Rattle.std.proofs.lemmas.Int.{ints}
+use Rattle.std.proofs.Common.{rules, FitsSigned, to_z-of_z, ◌≡◌, ◌*ℤ◌}
 use Rattle.std.specs.Int.{IsGcd, w128}
 use Rattle.std.specs.Int.RustNames.{unsigned_abs}
 use Rattle.bz_mps.proofs.BoundNumbers.{gcd_positive, lowest_of, other_positive}

@@ -1,4 +1,4 @@
-use Rattle.std.proofs.Common.{rules, refl}
+use Rattle.std.proofs.Common.{refl}
 use Rattle.bz_mps.proofs.EndLemmas.{bounded_step, bounds_step, starting_finite}
 use Rattle.bz_mps.proofs.column_ends.bounds_by.Goals as goal
 

@@ -1,4 +1,4 @@
-use Rattle.std.proofs.Common.{ap, sym, subst, ◌∙◌, ◌≡◌, ℕ, true, false}
+use Rattle.std.proofs.Common.{sym, subst, ◌∙◌}
 use Rattle.bz_lines.specs.FirstFault.{IsFirstFailing}
 use Rattle.bz_facts.specs.declared.MpsKind.TheVariants.{NegativeUpper, Crossed}
 use Rattle.bz_mps.specs.FactModel.{end_tests_of_column, fault}

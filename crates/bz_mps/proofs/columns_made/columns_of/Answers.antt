@@ -1,4 +1,4 @@
-use Rattle.std.proofs.Common.{arith, rules, sym, ◌∙◌, ◌≡◌, List, ap, refl}
+use Rattle.std.proofs.Common.{arith, sym, ◌∙◌, ◌≡◌, ap}
 use Rattle.std.specs.Prelude.{length}
 use Rattle.bz_mps.specs.ColumnEnds.{lines_at}
 use Rattle.bz_mps.proofs.PlacedItems.{items_there}

@@ -1,4 +1,4 @@
-use Rattle.std.proofs.Common.{rules, arith, take, subst, sym, ap, ◌∙◌, ◌≡◌, not, true, false}
+use Rattle.std.proofs.Common.{arith, take, subst, sym, ap, ◌∙◌, ◌≡◌, not}
 use Rattle.std.specs.Prelude.{length}
 use Rattle.std.proofs.Math.Seq.{take-length}
 use Rattle.bz_num.specs.Row.{IsSparse}

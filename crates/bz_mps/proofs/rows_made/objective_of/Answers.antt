@@ -1,4 +1,4 @@
-use Rattle.std.proofs.Common.{ap, rules, sym, ◌∙◌, ◌≡◌, ◌<◌, subst, Option, List, None, false, true}
+use Rattle.std.proofs.Common.{ap, rules, sym, ◌∙◌, ◌≡◌, ◌<◌, subst, List, None, false, true}
 use Rattle.std.specs.Prelude.{length}
 use Rattle.std.specs.Option.{unwrap_or}
 use Rattle.bz_num.specs.declared.Dec.{Dec}
@@ -34,7 +34,7 @@ objective_with-requires c =
     ∙ ap (λ p. entries_at p c.args.facts.now.entries) place in
     let rhs : c.number_or_zero-rhs.result ≡ objective_side c.args.facts.now =
     c.number_or_zero-rhs.ensures ∙ ap (λ o. unwrap_or o zero_dec) (given_is c.args.facts.now.right_sides c.as_slice-2.result.now c.objective_place-place.result
-        (c.as_slice-2.ensures.value ∙ items_there (λ g. g.row) (λ v. v.items) (length c.args.facts.now.row_types) c.args.facts.now.right_sides c.args.by_row.now.right_sides.items c.objective_place-place.result c.index-2.result.now c.requires.by_row.right_sides_are inside c.index-2.ensures))
+    (c.as_slice-2.ensures.value ∙ items_there (λ g. g.row) (λ v. v.items) (length c.args.facts.now.row_types) c.args.facts.now.right_sides c.args.by_row.now.right_sides.items c.objective_place-place.result c.index-2.result.now c.requires.by_row.right_sides_are inside c.index-2.ensures))
     ∙ ap (right_side_at c.args.facts.now) place in
     subst (λ (es : List Entry). AreRowFacts es c.number_or_zero-rhs.result None) (sym entries)
     (subst (λ (d : Dec). AreRowFacts (objective_entries c.args.facts.now) d None) (sym rhs) (objective_facts_sound c.args.facts.now (objective_place c.args.facts.now.row_types) c.requires.sound))
@@ -48,7 +48,7 @@ returns-in-Some-clause-objective c =
     ∙ ap (λ p. entries_at p c.args.facts.now.entries) place in
     let rhs : c.number_or_zero-rhs.result ≡ objective_side c.args.facts.now =
     c.number_or_zero-rhs.ensures ∙ ap (λ o. unwrap_or o zero_dec) (given_is c.args.facts.now.right_sides c.as_slice-2.result.now c.objective_place-place.result
-        (c.as_slice-2.ensures.value ∙ items_there (λ g. g.row) (λ v. v.items) (length c.args.facts.now.row_types) c.args.facts.now.right_sides c.args.by_row.now.right_sides.items c.objective_place-place.result c.index-2.result.now c.requires.by_row.right_sides_are inside c.index-2.ensures))
+    (c.as_slice-2.ensures.value ∙ items_there (λ g. g.row) (λ v. v.items) (length c.args.facts.now.row_types) c.args.facts.now.right_sides c.args.by_row.now.right_sides.items c.objective_place-place.result c.index-2.result.now c.requires.by_row.right_sides_are inside c.index-2.ensures))
     ∙ ap (right_side_at c.args.facts.now) place in
     objective_is c.args.facts.now c.as_slice-entries.result.now c.number_or_zero-rhs.result c.in-Some.objective entries rhs
     (unless_some _ (IsObjectiveWith c.as_slice-entries.result.now c.number_or_zero-rhs.result) c.in_ok-objective.field-0 c.in-Some.objective c.in-Some.is c.in_ok-objective.ensures).1
@@ -62,9 +62,8 @@ returns-in-Some-clause-tests c =
     ∙ ap (λ p. entries_at p c.args.facts.now.entries) place in
     let rhs : c.number_or_zero-rhs.result ≡ objective_side c.args.facts.now =
     c.number_or_zero-rhs.ensures ∙ ap (λ o. unwrap_or o zero_dec) (given_is c.args.facts.now.right_sides c.as_slice-2.result.now c.objective_place-place.result
-        (c.as_slice-2.ensures.value ∙ items_there (λ g. g.row) (λ v. v.items) (length c.args.facts.now.row_types) c.args.facts.now.right_sides c.args.by_row.now.right_sides.items c.objective_place-place.result c.index-2.result.now c.requires.by_row.right_sides_are inside c.index-2.ensures))
-    ∙ ap (right_side_at c.args.facts.now) place in
-    (
+    (c.as_slice-2.ensures.value ∙ items_there (λ g. g.row) (λ v. v.items) (length c.args.facts.now.row_types) c.args.facts.now.right_sides c.args.by_row.now.right_sides.items c.objective_place-place.result c.index-2.result.now c.requires.by_row.right_sides_are inside c.index-2.ensures))
+    ∙ ap (right_side_at c.args.facts.now) place in (
       wide_objective_is c.args.facts.now c.as_slice-entries.result.now c.number_or_zero-rhs.result false entries rhs
           (unless_some _ (IsObjectiveWith c.as_slice-entries.result.now c.number_or_zero-rhs.result) c.in_ok-objective.field-0 c.in-Some.objective c.in-Some.is c.in_ok-objective.ensures).0,
       tt,
@@ -79,7 +78,7 @@ returns-in-None-clause-tests c =
     ∙ ap (λ p. entries_at p c.args.facts.now.entries) place in
     let rhs : c.number_or_zero-rhs.result ≡ objective_side c.args.facts.now =
     c.number_or_zero-rhs.ensures ∙ ap (λ o. unwrap_or o zero_dec) (given_is c.args.facts.now.right_sides c.as_slice-2.result.now c.objective_place-place.result
-        (c.as_slice-2.ensures.value ∙ items_there (λ g. g.row) (λ v. v.items) (length c.args.facts.now.row_types) c.args.facts.now.right_sides c.args.by_row.now.right_sides.items c.objective_place-place.result c.index-2.result.now c.requires.by_row.right_sides_are inside c.index-2.ensures))
+    (c.as_slice-2.ensures.value ∙ items_there (λ g. g.row) (λ v. v.items) (length c.args.facts.now.row_types) c.args.facts.now.right_sides c.args.by_row.now.right_sides.items c.objective_place-place.result c.index-2.result.now c.requires.by_row.right_sides_are inside c.index-2.ensures))
     ∙ ap (right_side_at c.args.facts.now) place in
     fails_first _ _ _
     (wide_objective_is c.args.facts.now c.as_slice-entries.result.now c.number_or_zero-rhs.result true entries rhs

@@ -1,11 +1,9 @@
-use Rattle.std.proofs.Common.{arith, ap, rules, sym, subst, filter, map, not, take, get_or, ◌∙◌, ◌≡◌, ◌<◌, false, true}
+use Rattle.std.proofs.Common.{arith, ap, sym, subst, map, get_or, ◌∙◌, ◌≡◌, ◌<◌}
 use Rattle.std.specs.Prelude.{length}
-use Rattle.std.specs.List.{AllZip, enumerate_from}
+use Rattle.std.specs.List.{AllZip}
 use Rattle.bz_lines.specs.FirstFault.{NoneFails}
 use Rattle.bz_facts.specs.declared.RowType.TheVariants.{Free}
-use Rattle.bz_facts.specs.LineTests.{is_free}
 use Rattle.bz_mps.specs.FactModel.{IsRowOf, end_test_at_row}
-use Rattle.bz_mps.specs.ScaledRows.{is_wide_row, row_at}
 use Rattle.bz_mps.proofs.RowLemmas.{all_rows, kind_read, next_skipped, row_added, row_passes, row_stops, unless_none, unless_some}
 use Rattle.bz_mps.proofs.rows_made.rows_of.Goals as goal
 

@@ -1,6 +1,6 @@
 use Rattle.std.proofs.Common.{arith, rules, pos, ◌<◌, ◌≤◌, ◌^◌, ◌*◌, ◌≡◌, ◌+ℤ◌, ◌≤ℤ◌, FitsSigned}
 use Rattle.std.proofs.lemmas.Int.{ints}
-use Rattle.std.specs.Int.{w128, w32}
+use Rattle.std.specs.Int.{w32}
 use Rattle.std.specs.Int.RustNames.{unsigned_abs}
 use Rattle.bz_mps.specs.ScaledRows.{scaled}
 use Rattle.bz_mps.proofs.ScaledNumbers.{digits_enough, large_power, scaled_size_is}

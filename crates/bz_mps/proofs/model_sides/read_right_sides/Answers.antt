@@ -1,7 +1,0 @@
-use Rattle.std.proofs.Common.{rules}
-use Rattle.bz_mps.proofs.SideReading.{sides_next}
-use Rattle.bz_mps.proofs.model_sides.read_right_sides.Goals as goal
-
-pub loop-line-preserved : goal.loop-line-preserved
-loop-line-preserved c =
-    sides_next _ _ c.args.lines.now c.loop-line.line-index c.line-item.result _ _ c.loop-line-test.true c.line-item.is c.loop-line.invariant (search rules) (search rules)

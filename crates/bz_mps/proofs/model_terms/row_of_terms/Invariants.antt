@@ -1,6 +1,0 @@
-use Rattle.std.proofs.Common.{drop, take, ◌≡◌}
-use Rattle.bz_mps.proofs.TermReading.{RowSoFar}
-use Rattle.bz_mps.proofs.model_terms.row_of_terms.Given as goal
-
-abbrev pub invariant-loop-term : goal.invariant-loop-term
-invariant-loop-term l = RowSoFar l.count l.low l.terms (drop l.term-index l.terms) × (l.row.items ≡ take l.term-index l.terms)
