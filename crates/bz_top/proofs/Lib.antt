@@ -1,5 +1,10 @@
+pub mod Fours
+pub mod Laws
 pub mod Loads
+pub mod PartSizes
 pub mod PieceTexts
 pub mod Puts
+pub mod RefusalEnds
+pub mod SaidEnds
 pub mod Settled
 pub mod Showing

@@ -1,10 +1,12 @@
 -- What loads give and why they refuse, in terms of the contents of the desk.
 use Rattle.std.proofs.Common.{◌≡◌, ℕ, ◌<◌, ◌≤◌, List, length, Option, Some, None, refl, ap, subst, sym, ◌∙◌}
-use Rattle.std.specs.Prelude.{IsSomeAnd, Result, Ok, Err, IsErrAnd, IfErr, IfOk}
+use Rattle.std.specs.Prelude.{IsSomeAnd, Result, Ok, Err, IsErrAnd, IfErr, IfOk, ◌+◌, slice_index_or}
 use Rattle.bz_io.specs.Desk.{Contents, Holds, IsSame}
 use Rattle.bz_io.specs.Told.{WhereTold}
 use Rattle.bz_model.specs.declared.Model.{Model}
-use Rattle.bz_model.specs.Splits.{Decomposition}
+use Rattle.bz_model.specs.Parting.{blocks_of}
+use Rattle.bz_model.specs.Splits.{Decomposition, IsSplit}
+use Rattle.bz_split.specs.Sizes.{rows_of_part}
 use Rattle.bz_model.specs.Strict.{IsStrict}
 use Rattle.bz_facts.specs.declared.MpsFault.{MpsFault}
 use Rattle.bz_mps.specs.FactModel.{ModelOf, MpsFaultOf}
@@ -21,9 +23,9 @@ use Rattle.bz_top.specs.declared.status.File.{File}
 use Rattle.bz_top.specs.declared.status.File.TheVariants.{Model as ModelFile, Part as PartFile, Cert as CertFile}
 use Rattle.bz_top.specs.declared.status.Refusal.{Refusal}
 use Rattle.bz_top.specs.declared.status.Refusal.TheVariants as refusal
-use Rattle.bz_top.specs.Claims.{HasCert, HoldsFile, IsAccepted, IsCause, IsCauseIn, IsReached, IsTooLong, ReadsCertificate, ReadsModel, ReadsPart, limit_of}
+use Rattle.bz_top.specs.Claims.{AreRowCounts, HasCert, HasNoCert, HoldsFile, IsAccepted, IsCause, IsCauseIn, IsReached, IsTooLong, ReadsCertificate, ReadsModel, ReadsPart, limit_of}
 use Rattle.bz_top.specs.Ends.{name_of}
-use Rattle.bz_top.specs.Loads.{Accepted, Certified, IsEarly, Modelled, Parted, Reached, RefusesCheck, RefusesFile, Splits}
+use Rattle.bz_top.specs.Loads.{Accepted, Certified, IsEarly, Modelled, Parted, Reached, RefusesCheck, RefusesFile, ShownParts, Splits}
 
 -- ---- what a file held when it was loaded it held at first
 back : (contents later : Contents) (j : Job) (file : File) (text : List ℕ) → IsSame contents later → HoldsFile later j file text → HoldsFile contents j file text
@@ -227,6 +229,27 @@ check_refused (Some contents) j d c (refusal.Check f) agreed read h = record { s
 check_refused (Some contents) j d c (refusal.Read _) agreed read h = absurd h
 check_refused (Some contents) j d c (refusal.TooLong _) agreed read h = absurd h
 check_refused (Some contents) j d c refusal.Memory agreed read h = tt
+
+-- a split that was made of what the files give
+pub split_accepted : (held : Option Contents) (j : Job) (d s : Decomposition) → Parted held j d → s ≡ d → IsSplit s → Accepted held j s
+split_accepted None j d s h e split = tt
+split_accepted (Some contents) j d s h e split = record { part = subst (λ (a : Decomposition). ReadsPart contents j a) (sym e) h; strict = split.strict }
+
+pub parts_shown : (held : Option Contents) (j : Job) (s : Decomposition) → HasNoCert j → Accepted held j s → ShownParts held j s
+parts_shown None j s asked h = tt
+parts_shown (Some contents) j s asked h = record { asked = asked; accepted = h }
+
+pub rows_counted : (d s : Decomposition) (rows : List ℕ) → s ≡ d → length rows ≡ blocks_of d.part + 1 → ((b : ℕ) → b ≤ blocks_of d.part → slice_index_or rows b 0 ≡ rows_of_part d.model d.part b) → AreRowCounts s rows
+rows_counted d s rows e l f = subst (λ (a : Decomposition). AreRowCounts a rows) (sym e) (record { parts = l; counts = f })
+
+-- names that stay, and stay again
+pub same_then : (a b c : Option Contents) → WhereTold IsSame a b → WhereTold IsSame b c → WhereTold IsSame a c
+same_then None None None p q = tt
+same_then None None (Some z) p q = absurd q
+same_then None (Some y) c p q = absurd p
+same_then (Some x) None c p q = absurd p
+same_then (Some x) (Some y) None p q = absurd q
+same_then (Some x) (Some y) (Some z) p q = λ name. q name ∙ p name
 
 -- ---- results
 -- what holds of the one error of a call holds of its error

@@ -183,8 +183,8 @@ split_fault m p split.OutOfMemory = []
 -- the line of a part: how many columns, rows and inequalities it has, two counted for each integer column of the master
 abbrev pub part_line : Decomposition → ℕ → ℕ → List ℕ
 part_line d p rows =
-    line (codes "part" ++ numbered p ++ codes " columns" ++ numbered (width_of d.part p) ++ codes " rows" ++ numbered rows
-    ++ codes " inequalities" ++ numbered (size_of d.model d.part p))
+    line (codes "part " ++ number p ++ codes " columns " ++ number (width_of d.part p) ++ codes " rows " ++ number rows
+    ++ codes " inequalities " ++ number (size_of d.model d.part p))
 
 -- the lines of the parts from part p on, of which the rows are counted
 abbrev pub parts_from : Decomposition → ℕ → List ℕ → List ℕ

@@ -2,6 +2,7 @@
 ghost use Rattle.std.specs.Prelude.{◌≡◌, IfErr, IfOk};
 ghost use Rattle.bz_io.specs.Desk.{IsSame};
 ghost use Rattle.bz_io.specs.Told.{WhereTold};
+ghost use Rattle.bz_model.specs.Splits.{IsSplit};
 ghost use Rattle.bz_top.specs.Claims.{AreRowCounts, CountsFiles, HasNoCert, IsCause};
 ghost use Rattle.bz_top.specs.Loads.{EndsDecomposed, ShownParts};
 
@@ -21,6 +22,7 @@ pub(crate) fn split_files<D: Desk>(
 ) -> Result<(Split, Vec<u32>), Refusal>
     requires { HasNoCert job.now }
     ensures shown { IfOk result (λ r. ShownParts (D.held desk.old) job.now r.0) }
+    ensures split { IfOk result (λ r. IsSplit r.0) }
     ensures rows { IfOk result (λ r. AreRowCounts r.0 r.1.items) }
     ensures cause { IfErr result (IsCause (D.held desk.old) job.now) }
     ensures decomposed { EndsDecomposed (D.held desk.old) job.now result }

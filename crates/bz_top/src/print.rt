@@ -43,7 +43,7 @@ fn put_optimal<O: Sink>(out: &mut O, stated: Stated) -> Result<(), PutFailed>
 }
 
 /// Puts the line of a certificate that holds.
-fn put_holds<O: Sink>(out: &mut O, holding: Holding) -> Result<(), PutFailed>
+pub(crate) fn put_holds<O: Sink>(out: &mut O, holding: Holding) -> Result<(), PutFailed>
     ensures ok { OnOk result (WhereTold (Takes (holds_text holding)) (O.taken out.old) (O.taken out.new)) }
     ensures failed { OnErr result (WhereTold (TakesPrefix (holds_text holding)) (O.taken out.old) (O.taken out.new)) }
     ensures count { CountsFault result (O.faults out.old) (O.faults out.new) }

@@ -4,6 +4,7 @@ ghost use Rattle.bz_io.specs.Faults.{CountsFault};
 ghost use Rattle.bz_io.specs.Sink.{Takes, TakesPrefix};
 ghost use Rattle.bz_io.specs.Told.{WhereTold};
 ghost use Rattle.bz_model.specs.Parting.{blocks_of};
+ghost use Rattle.bz_model.specs.Splits.{IsSplit};
 ghost use Rattle.bz_model.specs.Strict.{size_of};
 ghost use Rattle.bz_top.specs.Texts.{part_line, parts_text};
 
@@ -56,7 +57,8 @@ fn put_part<O: Sink>(out: &mut O, split: &Split, part: u32, rows: u32) -> Result
 
 /// Puts the lines of the parts, with the number of rows of each, the master's first.
 pub(crate) fn put_parts<O: Sink>(out: &mut O, split: &Split, rows: &[u32]) -> Result<(), PutFailed>
-    requires { length rows.now ≡ blocks_of split.now.part + 1 }
+    requires split { IsSplit split.now }
+    requires rows { length rows.now ≡ blocks_of split.now.part + 1 }
     ensures ok { OnOk result (WhereTold (Takes (parts_text split.now rows.now)) (O.taken out.old) (O.taken out.new)) }
     ensures failed { OnErr result (WhereTold (TakesPrefix (parts_text split.now rows.now)) (O.taken out.old) (O.taken out.new)) }
     ensures count { CountsFault result (O.faults out.old) (O.faults out.new) }
