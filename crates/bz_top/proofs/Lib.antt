@@ -1,10 +1,10 @@
-pub mod Causes
-pub mod FewRows
 pub mod Fours
 pub mod Laws
-pub mod MemoryEnds
+pub mod Loads
+pub mod PartSizes
 pub mod PieceTexts
 pub mod Puts
-pub mod Refused
+pub mod RefusalEnds
+pub mod SaidEnds
 pub mod Settled
 pub mod Showing

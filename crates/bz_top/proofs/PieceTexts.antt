@@ -1,5 +1,5 @@
 -- Putting pieces one after another puts their whole text.
-use Rattle.std.proofs.Common.{◌≡◌, ℕ, ◌+◌, ◌<◌, ◌≤◌, List, [], ◌++◌, length, get_or, drop, Option, Some, None, ap, sym, subst}
+use Rattle.std.proofs.Common.{◌≡◌, ℕ, ◌+◌, ◌<◌, ◌≤◌, List, [], ◌++◌, length, get_or, drop, Option, Some, None, ap, append_assoc, sym, subst, ◌∷◌}
 use Rattle.std.proofs.lemmas.List.{append-nil}
 use Rattle.std.specs.Prelude.{Result, Ok, Err, IsErr}
 use Rattle.bz_io.specs.Faults.{CountsFault, HasRisen}
@@ -8,6 +8,7 @@ use Rattle.bz_io.specs.Told.{WhereTold}
 use Rattle.bz_model.proofs.Sparse.{left_at, none_left}
 use Rattle.bz_top.specs.declared.pieces.Piece.{Piece}
 use Rattle.bz_top.specs.Pieces.{piece_text, pieces_text}
+use Rattle.bz_top.specs.Texts.{line}
 use Rattle.bz_top.proofs.Puts.{prefix_before, prefix_behind, takes_behind}
 
 -- once the rest is taken behind what was taken so far, the whole is taken
@@ -46,3 +47,22 @@ text_none pieces i l = ap pieces_text (none_left pieces i l)
 pub counts_failed : {T E : Type 0} (r : Result T E) (before after : ℕ) → IsErr r → HasRisen before after → CountsFault r before after
 counts_failed (Ok _) before after f h = absurd cc
 counts_failed (Err _) before after f h = h
+
+-- the pieces of a line, read as one line
+pub two_pieces : (a b : List ℕ) → a ++ (b ++ 10 ∷ []) ≡ line (a ++ b)
+two_pieces a b = simp append_assoc
+
+pub three_pieces : (a b c : List ℕ) → a ++ (b ++ (c ++ 10 ∷ [])) ≡ line (a ++ b ++ c)
+three_pieces a b c = simp append_assoc
+
+pub with_number : (a b c n : List ℕ) → a ++ (b ++ (c ++ (32 ∷ (n ++ 10 ∷ [])))) ≡ line (a ++ b ++ c ++ (32 ∷ n))
+with_number a b c n = simp append_assoc
+
+pub with_numbers : (a b c n m : List ℕ) → a ++ (b ++ (c ++ (32 ∷ (n ++ (32 ∷ (m ++ 10 ∷ [])))))) ≡ line (a ++ b ++ c ++ (32 ∷ n) ++ (32 ∷ m))
+with_numbers a b c n m = simp append_assoc
+
+pub fault_pieces : (file said place between kind name : List ℕ) → file ++ (said ++ (place ++ (between ++ (kind ++ (32 ∷ (name ++ 10 ∷ [])))))) ≡ line (file ++ said ++ place ++ between ++ kind ++ 32 ∷ name)
+fault_pieces file said place between kind name = simp append_assoc
+
+pub part_pieces : (a p b c d r e i : List ℕ) → a ++ (p ++ (b ++ (c ++ (d ++ (r ++ (e ++ (i ++ 10 ∷ []))))))) ≡ line (a ++ p ++ b ++ c ++ d ++ r ++ e ++ i)
+part_pieces a p b c d r e i = simp append_assoc

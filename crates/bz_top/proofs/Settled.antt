@@ -1,200 +1,233 @@
--- What the contents settle is the one end of a check that nothing breaks.
+-- What the contents settle is the one end of a job that nothing breaks.
 --
--- A check passes seven stages, one after another, and ends at the first that fails, or behind the last. So two ends of
--- the same contents are at the same stage.
-use Rattle.std.proofs.Common.{◌≡◌, ◌≢◌, ◌⊎◌, inl, inr, ℕ, zero, suc, ◌<◌, ◌≤◌, List, length, Option, Some, None, refl, sym, subst, ap, ◌∙◌, arith}
-use Rattle.std.specs.Prelude.{IsSomeAnd, Result, Ok, Err, [], ◌∷◌, codes}
-use Rattle.std.specs.List.{slice_index_or}
+-- A job passes stages, one after another, and ends at the first that fails, or behind the last. So two ends of the same
+-- contents are at the same stage.
+use Rattle.std.proofs.Common.{◌≡◌, ◌⊎◌, inl, inr, ℕ, zero, suc, ◌<◌, ◌≤◌, List, length, Option, Some, None, refl, sym, subst, ap, ◌∙◌, arith}
+use Rattle.std.specs.Prelude.{IsSomeAnd, Result, Ok, Err}
+use Rattle.std.specs.Option.{unwrap_or}
 use Rattle.bz_algebra.proofs.Bounded.{by_lt, by_order}
 use Rattle.bz_io.specs.Desk.{Contents}
 use Rattle.bz_model.specs.declared.Model.{Model}
 use Rattle.bz_model.specs.Splits.{Decomposition}
+use Rattle.bz_model.specs.Strict.{IsStrict}
+use Rattle.bz_facts.specs.declared.MpsFault.{MpsFault}
+use Rattle.bz_mps.specs.FactModel.{ModelOf, MpsFaultOf}
+use Rattle.bz_part.specs.declared.PartFault.{PartFault as FaultOfPart}
+use Rattle.bz_part.specs.Partition.{PartFault, PartOf}
+use Rattle.bz_split.specs.declared.SplitFault.{SplitFault}
+use Rattle.bz_split.specs.declared.Unsplit.{Unsplit}
+use Rattle.bz_split.specs.SplitFaults.{IsSplitFault}
 use Rattle.bz_cert.specs.declared.CertFault.{CertFault}
 use Rattle.bz_cert.specs.declared.Certificate.{Certificate}
 use Rattle.bz_cert.specs.CertFaults.{IsCertFault}
+use Rattle.bz_cert.specs.CertText.{IsCertText}
 use Rattle.bz_check.specs.declared.CheckFault.{CheckFault}
 use Rattle.bz_check.specs.CheckTests.{IsCheckFault}
+use Rattle.bz_check.specs.Fits.{Fits}
 use Rattle.bz_check.specs.Passing.{Passes}
 use Rattle.bz_pass.specs.Laws.{IsDecomposed}
-use Rattle.bz_check.specs.Fits.{Fits}
-use Rattle.bz_top.specs.declared.holding.Holding.{Holding}
 use Rattle.bz_top.specs.declared.job.Job.{Job}
-use Rattle.bz_top.specs.declared.job.Job.TheVariants.{Check as AJob}
+use Rattle.bz_top.specs.declared.job.Job.TheVariants as job
+use Rattle.bz_top.specs.declared.said.Holding.{Holding}
 use Rattle.bz_top.specs.declared.status.File.{File}
 use Rattle.bz_top.specs.declared.status.File.TheVariants.{Model as ModelFile, Part as PartFile, Cert as CertFile}
 use Rattle.bz_top.specs.declared.status.Refusal.{Refusal}
 use Rattle.bz_top.specs.declared.status.Refusal.TheVariants as refusal
 use Rattle.bz_top.specs.declared.status.Status.{Status}
 use Rattle.bz_top.specs.declared.status.Status.TheVariants as status
-use Rattle.bz_cert.specs.CertText.{IsCertText}
-use Rattle.bz_mps.specs.ModelText.{IsModelText}
-use Rattle.bz_part.specs.PartText.{IsPartText}
-use Rattle.bz_top.specs.Claims.{Decomposes, IsEarly, HoldsFile, IsAccepted, IsCutShort, IsProven, IsCauseIn, IsCertRefused, IsCheckRefused, IsModelRefused, IsPartRefused, IsTooLong, ReadsCertificate, ReadsModel, Settles, ShownBy, EndsSettled, EndsSettledAsked, IsCause, Shown, limit_of}
+use Rattle.bz_top.specs.Claims.{EndsSettled, HasCert, HasNoCert, HoldsFile, IsAccepted, IsCause, IsCertRefused, IsCheckRefused, IsCutShort, IsGranted, IsModelRefused, IsPartRefused, IsProven, IsSplitRefused, IsTooLong, ReadsCertificate, ReadsModel, ReadsPart, Settles, ShowsParts, ShowsVerdict, limit_of}
 use Rattle.bz_top.specs.Ends.{name_of, status_after, status_of}
-use Rattle.bz_top.specs.Jobs.{IsJobless, JobOf}
-use Rattle.bz_top.proofs.Refused.{one_text, one_accepted, one_certificate_read, OneModel, OnePart, OneCertificate}
+use Rattle.bz_top.specs.Loads.{Accepted, Decomposes, IsEarly, ShownHolding, ShownParts}
+
+-- what a name holds is one text
+one_text : (contents : Contents) (j : Job) (file : File) (t u : List ℕ) → HoldsFile contents j file t → HoldsFile contents j file u → t ≡ u
+one_text contents j file t u h k = ap (λ (o : Option (List ℕ)). unwrap_or o t) (sym h.held ∙ k.held)
+
+-- A text says one thing at most, and has no fault where it says something; a partition that is strict has no fault, nor has
+-- a certificate that passes and fits.
+pub record AreExclusive : Type 0 where
+  pub model : (text : List ℕ) (m n : Model) → ModelOf text m → ModelOf text n → m ≡ n
+  pub model_fault : (text : List ℕ) (m : Model) (f : MpsFault) → ModelOf text m → MpsFaultOf text f.line f.kind → ⊥
+  pub part : (text : List ℕ) (m : Model) (p q : List ℕ) → PartOf text m p → PartOf text m q → p ≡ q
+  pub part_fault : (text : List ℕ) (m : Model) (p : List ℕ) (f : FaultOfPart) → PartOf text m p → PartFault text m f.line f.kind → ⊥
+  pub split : (m : Model) (p : List ℕ) (f : SplitFault) → IsStrict m p → IsSplitFault m p f → ⊥
+  pub certificate : (text : List ℕ) (c d : Certificate) → IsCertText text c → IsCertText text d → c ≡ d
+  pub text : (text : List ℕ) (c : Certificate) (f : CertFault) → IsCertText text c → IsCertFault text f.line f.kind → ⊥
+  pub check : (d : Decomposition) (c : Certificate) (f : CheckFault) → IsDecomposed d.model d.part → IsCheckFault d.model d.part c f → Passes d.model d.part c → Fits d.model d.part c → ⊥
 
 -- the file holds a text within its limit
 abbrev IsHeld : Contents → Job → File → Type 0
-IsHeld contents job file = (text : List ℕ) × HoldsFile contents job file text
+IsHeld contents j file = (text : List ℕ) × HoldsFile contents j file text
+
+-- the stages of a certificate, behind those of the model and the partition; a split has none
+abbrev PassedCert : Contents → Job → ℕ → Type 0
+PassedCert contents (job.Split model part) k = ⊥
+PassedCert contents (job.Check model part cert) zero = IsHeld contents (job.Check model part cert) CertFile
+PassedCert contents (job.Check model part cert) (suc zero) = (c : Certificate) × ReadsCertificate contents (job.Check model part cert) c
+PassedCert contents (job.Check model part cert) (suc (suc zero)) = IsProven contents (job.Check model part cert)
+PassedCert contents (job.Check model part cert) (suc (suc (suc k))) = ⊥
 
 -- the stage is passed
 abbrev Passed : Contents → Job → ℕ → Type 0
-Passed contents job zero = IsHeld contents job ModelFile
-Passed contents job (suc zero) = (m : Model) × ReadsModel contents job m
-Passed contents job (suc (suc zero)) = IsHeld contents job PartFile
-Passed contents job (suc (suc (suc zero))) = (d : Decomposition) × IsAccepted contents job d
-Passed contents job (suc (suc (suc (suc zero)))) = IsHeld contents job CertFile
-Passed contents job (suc (suc (suc (suc (suc zero))))) = (c : Certificate) × ReadsCertificate contents job c
-Passed contents job (suc (suc (suc (suc (suc (suc zero)))))) = IsProven contents job
-Passed contents job (suc (suc (suc (suc (suc (suc (suc k))))))) = ⊥
+Passed contents j zero = IsHeld contents j ModelFile
+Passed contents j (suc zero) = (m : Model) × ReadsModel contents j m
+Passed contents j (suc (suc zero)) = IsHeld contents j PartFile
+Passed contents j (suc (suc (suc zero))) = (d : Decomposition) × ReadsPart contents j d
+Passed contents j (suc (suc (suc (suc zero)))) = (d : Decomposition) × IsAccepted contents j d
+Passed contents j (suc (suc (suc (suc (suc k))))) = PassedCert contents j k
 
 -- the stage fails and those before it are passed
-record EndsAt (contents : Contents) (job : Job) (k : ℕ) : Type 0 where
-  before : (i : ℕ) → i < k → Passed contents job i
-  fails : Passed contents job k → ⊥
+record EndsAt (contents : Contents) (j : Job) (k : ℕ) : Type 0 where
+  before : (i : ℕ) → i < k → Passed contents j i
+  fails : Passed contents j k → ⊥
 
 -- the status of an end at a stage
-abbrev status_at : ℕ → Status
-status_at zero = status.TooLong
-status_at (suc zero) = status.Model
-status_at (suc (suc zero)) = status.TooLong
-status_at (suc (suc (suc zero))) = status.Part
-status_at (suc (suc (suc (suc zero)))) = status.TooLong
-status_at (suc (suc (suc (suc (suc zero))))) = status.Cert
-status_at (suc (suc (suc (suc (suc (suc zero)))))) = status.Cert
-status_at (suc (suc (suc (suc (suc (suc (suc k))))))) = status.Done
+abbrev cert_status : Job → ℕ → Status
+cert_status (job.Split model part) k = status.Done
+cert_status (job.Check model part cert) zero = status.TooLong
+cert_status (job.Check model part cert) (suc zero) = status.Cert
+cert_status (job.Check model part cert) (suc (suc zero)) = status.Cert
+cert_status (job.Check model part cert) (suc (suc (suc k))) = status.Done
+
+abbrev status_at : Job → ℕ → Status
+status_at j zero = status.TooLong
+status_at j (suc zero) = status.Model
+status_at j (suc (suc zero)) = status.TooLong
+status_at j (suc (suc (suc zero))) = status.Part
+status_at j (suc (suc (suc (suc zero)))) = status.Part
+status_at j (suc (suc (suc (suc (suc k))))) = cert_status j k
 
 -- two ends are at one stage
-same_stage : (contents : Contents) (job : Job) (j k : ℕ) → EndsAt contents job j → EndsAt contents job k → j ≡ k
-same_stage contents job j k p q = by_order j k (λ b. absurd (p.fails (q.before j b))) (λ e. e) (λ b. absurd (q.fails (p.before k b)))
+same_stage : (contents : Contents) (j : Job) (i k : ℕ) → EndsAt contents j i → EndsAt contents j k → i ≡ k
+same_stage contents j i k p q = by_order i k (λ b. absurd (p.fails (q.before i b))) (λ e. e) (λ b. absurd (q.fails (p.before k b)))
 
 -- a file that is too long holds no text within its limit
-not_held : (contents : Contents) (job : Job) (file : File) → IsTooLong contents job file → IsHeld contents job file → ⊥
-not_held contents job file long held =
+not_held : (contents : Contents) (j : Job) (file : File) → IsTooLong contents j file → IsHeld contents j file → ⊥
+not_held contents j file long held =
     let more : limit_of file < length held.0 = subst (λ (o : Option (List ℕ)). IsSomeAnd o (λ text. limit_of file < length text)) held.1.held long.too_long in
     let within = held.1.within in
     absurd (omega (arith, more, within))
 
--- the stages before the turn of each file
-before_part : (contents : Contents) (job : Job) → (m : Model) × ReadsModel contents job m → (i : ℕ) → i < 2 → Passed contents job i
-before_part contents job r zero b = (r.1.text, r.1.held)
-before_part contents job r (suc zero) b = r
-before_part contents job r (suc (suc i)) b = absurd (omega arith)
+-- the stages before the turn of each file, and before the split
+before_part : (contents : Contents) (j : Job) → (m : Model) × ReadsModel contents j m → (i : ℕ) → i < 2 → Passed contents j i
+before_part contents j r zero b = (r.1.text, r.1.held)
+before_part contents j r (suc zero) b = r
+before_part contents j r (suc (suc i)) b = absurd (omega arith)
 
-before_cert : (contents : Contents) (job : Job) → (d : Decomposition) × IsAccepted contents job d → (i : ℕ) → i < 4 → Passed contents job i
-before_cert contents job a zero b = (a.1.model.text, a.1.model.held)
-before_cert contents job a (suc zero) b = (a.0.model, a.1.model)
-before_cert contents job a (suc (suc zero)) b = (a.1.part_text, a.1.part)
-before_cert contents job a (suc (suc (suc zero))) b = a
-before_cert contents job a (suc (suc (suc (suc i)))) b = absurd (omega arith)
+before_split : (contents : Contents) (j : Job) → (d : Decomposition) × ReadsPart contents j d → (i : ℕ) → i < 4 → Passed contents j i
+before_split contents j a zero b = (a.1.model.text, a.1.model.held)
+before_split contents j a (suc zero) b = (a.0.model, a.1.model)
+before_split contents j a (suc (suc zero)) b = (a.1.text, a.1.held)
+before_split contents j a (suc (suc (suc zero))) b = a
+before_split contents j a (suc (suc (suc (suc i)))) b = absurd (omega arith)
 
-before_check : (contents : Contents) (job : Job) → (d : Decomposition) × IsAccepted contents job d → (c : Certificate) × ReadsCertificate contents job c → (i : ℕ) → i < 6 → Passed contents job i
-before_check contents job a r i b = by_lt i 4 (before_cert contents job a i) (λ l. last i l b)
-  where
-    last : (i : ℕ) → 4 ≤ i → i < 6 → Passed contents job i
-    last zero l b = absurd (omega (arith, l))
-    last (suc zero) l b = absurd (omega (arith, l))
-    last (suc (suc zero)) l b = absurd (omega (arith, l))
-    last (suc (suc (suc zero))) l b = absurd (omega (arith, l))
-    last (suc (suc (suc (suc zero)))) l b = (r.1.text, r.1.held)
-    last (suc (suc (suc (suc (suc zero))))) l b = r
-    last (suc (suc (suc (suc (suc (suc i)))))) l b = absurd (omega (arith, b))
+before_cert : (contents : Contents) (j : Job) → (d : Decomposition) × IsAccepted contents j d → (i : ℕ) → i < 5 → Passed contents j i
+before_cert contents j a i b = by_lt i 4 (before_split contents j (a.0, a.1.part) i) (λ l. let e : i ≡ 4 = omega (arith, l, b) in subst (λ (n : ℕ). Passed contents j n) (sym e) a)
 
 -- one stage more
-with_one : (contents : Contents) (job : Job) (k : ℕ) → ((i : ℕ) → i < k → Passed contents job i) → Passed contents job k → (i : ℕ) → i < suc k → Passed contents job i
-with_one contents job k before here i b = by_lt i k (before i) (λ l. let e : i ≡ k = omega (arith, l, b) in subst (λ (n : ℕ). Passed contents job n) (sym e) here)
+with_one : (contents : Contents) (j : Job) (k : ℕ) → ((i : ℕ) → i < k → Passed contents j i) → Passed contents j k → (i : ℕ) → i < suc k → Passed contents j i
+with_one contents j k before here i b = by_lt i k (before i) (λ l. let e : i ≡ k = omega (arith, l, b) in subst (λ (n : ℕ). Passed contents j n) (sym e) here)
 
 -- an end with its stage and its status
-record HasStage (contents : Contents) (job : Job) (s : Status) : Type 0 where
+record HasStage (contents : Contents) (j : Job) (s : Status) : Type 0 where
   stage : ℕ
-  ends : EndsAt contents job stage
-  status_is : s ≡ status_at stage
+  ends : EndsAt contents j stage
+  status_is : s ≡ status_at j stage
 
-one_status : (contents : Contents) (job : Job) (s t : Status) → HasStage contents job s → HasStage contents job t → s ≡ t
-one_status contents job s t p q = p.status_is ∙ ap status_at (same_stage contents job p.stage q.stage p.ends q.ends) ∙ sym q.status_is
+one_status : (contents : Contents) (j : Job) (s t : Status) → HasStage contents j s → HasStage contents j t → s ≡ t
+one_status contents j s t p q = p.status_is ∙ ap (status_at j) (same_stage contents j p.stage q.stage p.ends q.ends) ∙ sym q.status_is
 
-abbrev too_long_stage : (contents : Contents) (job : Job) (file : File) → IsTooLong contents job file → HasStage contents job status.TooLong
-too_long_stage contents job ModelFile long = record { stage = 0; ends = record { before = λ i b. absurd (omega (arith, b)); fails = not_held contents job ModelFile long }; status_is = refl }
-too_long_stage contents job PartFile long = record { stage = 2; ends = record { before = before_part contents job long.reached; fails = not_held contents job PartFile long }; status_is = refl }
-too_long_stage contents job CertFile long = record { stage = 4; ends = record { before = before_cert contents job long.reached; fails = not_held contents job CertFile long }; status_is = refl }
+none_before : (contents : Contents) (j : Job) (i : ℕ) → i < 0 → Passed contents j i
+none_before contents j i b = absurd (omega (arith, b))
 
-abbrev model_stage : (contents : Contents) (job : Job) → IsModelRefused contents job → HasStage contents job status.Model
-model_stage contents job out = record {
-  stage = 1;
-  ends = record {
-    before = with_one contents job 0 (λ i b. absurd (omega (arith, b))) (out.text, out.held);
-    fails = λ r. out.says_nothing r.0 (subst (λ (t : List ℕ). IsModelText t r.0) (one_text contents job ModelFile _ _ r.1.held out.held) r.1.reads);
-  };
-  status_is = refl;
-}
-
-abbrev part_stage : (contents : Contents) (job : Job) → IsPartRefused contents job → HasStage contents job status.Part
-part_stage contents job out = record {
-  stage = 3;
-  ends = record {
-    before = with_one contents job 2 (before_part contents job out.reached) (out.text, out.held);
-    fails = λ a. out.says_nothing a.0 a.1.model (subst (λ (t : List ℕ). IsPartText t a.0.model a.0.part) (one_text contents job PartFile _ _ a.1.part out.held) a.1.part_is) a.1.strict;
-  };
-  status_is = refl;
-}
-
-proven_stage : (contents : Contents) (job : Job) → IsProven contents job → HasStage contents job status.Done
-proven_stage contents job p = record {
-  stage = 7;
-  ends = record {
-    before = with_one contents job 6 (before_check contents job (p.split, p.accepted) (p.certificate, p.reads)) p;
-    fails = λ bad. bad;
-  };
-  status_is = refl;
-}
-
--- files that show a verdict have such a certificate
-proven : (contents : Contents) (job : Job) (holding : Holding) → ShownBy contents job holding → IsProven contents job
-proven contents job holding s = record {
-  split = record { model = s.shows.model; part = s.shows.part };
-  accepted = record {
-    model = record { text = s.model_text; held = s.model; reads = s.shows.model_is };
-    part_text = s.part_text;
-    part = s.part;
-    part_is = s.shows.part_is;
-    strict = s.shows.strict;
-  };
-  certificate = s.shows.certificate;
-  reads = record { text = s.cert_text; held = s.cert; reads = s.shows.certificate_is };
-  passes = s.shows.passes;
-  fits = s.shows.fits;
-}
-
--- ---- what a text or a certificate with a fault isn't
--- A text with a fault is no certificate's; a certificate with a fault doesn't both pass and fit; and a text says one thing
--- at most.
-pub record AreExclusive : Type 0 where
-  pub model : OneModel
-  pub part : OnePart
-  pub certificate : OneCertificate
-  pub text : (text : List ℕ) (c : Certificate) (f : CertFault) → IsCertText text c → IsCertFault text f.line f.kind → ⊥
-  pub check : (d : Decomposition) (c : Certificate) (f : CheckFault) → IsDecomposed d.model d.part → IsCheckFault d.model d.part c f → Passes d.model d.part c → Fits d.model d.part c → ⊥
+abbrev too_long_stage : (contents : Contents) (j : Job) (file : File) → IsTooLong contents j file → HasStage contents j status.TooLong
+too_long_stage contents j ModelFile long = record { stage = 0; ends = record { before = none_before contents j; fails = not_held contents j ModelFile long }; status_is = refl }
+too_long_stage contents j PartFile long = record { stage = 2; ends = record { before = before_part contents j long.reached; fails = not_held contents j PartFile long }; status_is = refl }
+too_long_stage contents (job.Split model part) CertFile long = absurd long.reached.0
+too_long_stage contents (job.Check model part cert) CertFile long = record { stage = 5; ends = record { before = before_cert contents (job.Check model part cert) long.reached.1; fails = not_held contents (job.Check model part cert) CertFile long }; status_is = refl }
 
 module _ (laws : AreExclusive) where
-  cert_stage : (contents : Contents) (job : Job) (f : CertFault) → IsCertRefused contents job f → HasStage contents job status.Cert
-  cert_stage contents job f out = record {
-    stage = 5;
+  -- the files give one thing
+  one_model : (contents : Contents) (j : Job) (m n : Model) → ReadsModel contents j m → ReadsModel contents j n → m ≡ n
+  one_model contents j m n h k =
+      laws.model k.text m n (subst (λ (t : List ℕ). ModelOf t m) (one_text contents j ModelFile _ _ h.held k.held) h.reads) k.reads
+
+  one_parting : (contents : Contents) (j : Job) (d e : Decomposition) → ReadsPart contents j d → ReadsPart contents j e → d ≡ e
+  one_parting contents j d e h k =
+      let same : d.model ≡ e.model = one_model contents j d.model e.model h.model k.model in
+      let text : h.text ≡ k.text = one_text contents j PartFile _ _ h.held k.held in
+      let moved : PartOf k.text e.model d.part =
+      subst (λ (n : Model). PartOf k.text n d.part) same (subst (λ (t : List ℕ). PartOf t d.model d.part) text h.reads) in
+      let part : d.part ≡ e.part = laws.part k.text e.model d.part e.part moved k.reads in
+      ap (λ (m : Model). record { model = m; part = d.part }) same ∙ ap (λ (p : List ℕ). record { model = e.model; part = p }) part
+
+  one_certificate : (contents : Contents) (j : Job) (c d : Certificate) → ReadsCertificate contents j c → ReadsCertificate contents j d → c ≡ d
+  one_certificate contents j c d h k =
+      laws.certificate k.text c d (subst (λ (t : List ℕ). IsCertText t c) (one_text contents j CertFile _ _ h.held k.held) h.reads) k.reads
+
+  -- every accepted decomposition is the one that was made a split
+  pub all_decomposed : (held : Option Contents) (j : Job) (s : Decomposition) → Accepted held j s → IsDecomposed s.model s.part → Decomposes held j
+  all_decomposed None j s h decomposed = tt
+  all_decomposed (Some contents) j s h decomposed = λ d also.
+      subst (λ (e : Decomposition). IsDecomposed e.model e.part) (one_parting contents j s d h.part also.part) decomposed
+
+  abbrev model_stage : (contents : Contents) (j : Job) (f : MpsFault) → IsModelRefused contents j f → HasStage contents j status.Model
+  model_stage contents j f out = record {
+    stage = 1;
     ends = record {
-      before = with_one contents job 4 (before_cert contents job out.reached) (out.text, out.held);
-      fails = λ r. laws.text out.text r.0 f (subst (λ (t : List ℕ). IsCertText t r.0) (one_text contents job CertFile _ _ r.1.held out.held) r.1.reads) out.is_fault;
+      before = with_one contents j 0 (none_before contents j) (out.text, out.held);
+      fails = λ r. laws.model_fault out.text r.0 f (subst (λ (t : List ℕ). ModelOf t r.0) (one_text contents j ModelFile _ _ r.1.held out.held) r.1.reads) out.is_fault;
     };
     status_is = refl;
   }
 
-  refused_stage : (contents : Contents) (job : Job) (f : CheckFault) → Decomposes (Some contents) job → IsCheckRefused contents job f → HasStage contents job status.Cert
-  refused_stage contents job f decomposed r = record {
+  abbrev part_stage : (contents : Contents) (j : Job) (f : FaultOfPart) → IsPartRefused contents j f → HasStage contents j status.Part
+  part_stage contents j f out = record {
+    stage = 3;
+    ends = record {
+      before = with_one contents j 2 (before_part contents j (out.model, out.reached)) (out.text, out.held);
+      fails = λ a.
+          let same : a.0.model ≡ out.model = one_model contents j a.0.model out.model a.1.model out.reached in
+          let text : PartOf out.text a.0.model a.0.part = subst (λ (t : List ℕ). PartOf t a.0.model a.0.part) (one_text contents j PartFile _ _ a.1.held out.held) a.1.reads in
+          laws.part_fault out.text out.model a.0.part f (subst (λ (m : Model). PartOf out.text m a.0.part) same text) out.is_fault;
+    };
+    status_is = refl;
+  }
+
+  abbrev split_stage : (contents : Contents) (j : Job) (u : Unsplit) → IsSplitRefused contents j u → HasStage contents j status.Part
+  split_stage contents j u out = record {
+    stage = 4;
+    ends = record {
+      before = before_split contents j (_, out.reads);
+      fails = λ a.
+          let same : a.0 ≡ record { model = u.model; part = u.part } = one_parting contents j a.0 _ a.1.part out.reads in
+          laws.split u.model u.part u.fault (subst (λ (d : Decomposition). IsStrict d.model d.part) same a.1.strict) out.is_fault;
+    };
+    status_is = refl;
+  }
+
+  cert_stage : (contents : Contents) (j : Job) (f : CertFault) → IsCertRefused contents j f → HasStage contents j status.Cert
+  cert_stage contents (job.Split model part) f out = absurd out.reached.0
+  cert_stage contents (job.Check model part cert) f out = record {
     stage = 6;
     ends = record {
-      before = before_check contents job (r.split, r.accepted) (r.certificate, r.reads);
+      before = with_one contents (job.Check model part cert) 5 (before_cert contents (job.Check model part cert) out.reached.1) (out.text, out.held);
+      fails = λ r. laws.text out.text r.0 f (subst (λ (t : List ℕ). IsCertText t r.0) (one_text contents (job.Check model part cert) CertFile _ _ r.1.held out.held) r.1.reads) out.is_fault;
+    };
+    status_is = refl;
+  }
+
+  refused_stage : (contents : Contents) (j : Job) (f : CheckFault) → Decomposes (Some contents) j → IsCheckRefused contents j f → HasStage contents j status.Cert
+  refused_stage contents (job.Split model part) f decomposed r = absurd r.reads.asked
+  refused_stage contents (job.Check model part cert) f decomposed r = record {
+    stage = 7;
+    ends = record {
+      before = with_one contents (job.Check model part cert) 6
+          (with_one contents (job.Check model part cert) 5 (before_cert contents (job.Check model part cert) (r.split, r.accepted)) (r.reads.text, r.reads.held))
+          (r.certificate, r.reads);
       fails = λ p.
-          let same : p.split ≡ r.split = one_accepted laws.model laws.part contents job p.split r.split p.accepted r.accepted in
-          let same_cert : p.certificate ≡ r.certificate = one_certificate_read laws.certificate contents job p.certificate r.certificate p.reads r.reads in
+          let same : p.split ≡ r.split = one_parting contents (job.Check model part cert) p.split r.split p.accepted.part r.accepted.part in
+          let same_cert : p.certificate ≡ r.certificate = one_certificate contents (job.Check model part cert) p.certificate r.certificate p.reads r.reads in
           let passes : Passes r.split.model r.split.part p.certificate = subst (λ (d : Decomposition). Passes d.model d.part p.certificate) same p.passes in
           let fits : Fits r.split.model r.split.part p.certificate = subst (λ (d : Decomposition). Fits d.model d.part p.certificate) same p.fits in
           laws.check r.split r.certificate f (decomposed r.split r.accepted) r.is_fault
@@ -204,75 +237,94 @@ module _ (laws : AreExclusive) where
     status_is = refl;
   }
 
-  settled_stage : (contents : Contents) (job : Job) (s : Status) → Decomposes (Some contents) job → Settles contents job s → HasStage contents job s
-  settled_stage contents job status.Done decomposed h = proven_stage contents job h
-  settled_stage contents job status.Unresolved decomposed h = absurd h
-  settled_stage contents job status.Usage decomposed h = absurd h
-  settled_stage contents job status.Model decomposed h = model_stage contents job h
-  settled_stage contents job status.Part decomposed h = part_stage contents job h
-  settled_stage contents job status.Read decomposed h = absurd h
-  settled_stage contents job status.Write decomposed h = absurd h
-  settled_stage contents job status.Memory decomposed h = absurd h
-  settled_stage contents job status.Cert decomposed h = elim h [ inl out ↦ cert_stage contents job out.0 out.1 | inr r ↦ refused_stage contents job r.0 decomposed r.1 ]
-  settled_stage contents job status.TooLong decomposed h = too_long_stage contents job h.0 h.1
+  granted_stage : (contents : Contents) (j : Job) → IsGranted contents j → HasStage contents j status.Done
+  granted_stage contents (job.Split model part) a = record {
+    stage = 5;
+    ends = record { before = before_cert contents (job.Split model part) a; fails = λ bad. bad };
+    status_is = refl;
+  }
+  granted_stage contents (job.Check model part cert) p = record {
+    stage = 8;
+    ends = record {
+      before = with_one contents (job.Check model part cert) 7
+          (with_one contents (job.Check model part cert) 6
+          (with_one contents (job.Check model part cert) 5 (before_cert contents (job.Check model part cert) (p.split, p.accepted)) (p.reads.text, p.reads.held))
+          (p.certificate, p.reads))
+          p;
+      fails = λ bad. bad;
+    };
+    status_is = refl;
+  }
 
-  -- the files show a verdict: so no other status is settled
-  pub done_settled : (held : Option Contents) (job : Job) (holding : Holding) → Decomposes held job → Shown held job holding → EndsSettled held job status.Done
-  done_settled None job holding decomposed shown = tt
-  done_settled (Some contents) job holding decomposed shown = λ s h. inl (one_status contents job status.Done s (proven_stage contents job (proven contents job holding shown)) (settled_stage contents job s decomposed h))
+  settled_stage : (contents : Contents) (j : Job) (s : Status) → Decomposes (Some contents) j → Settles contents j s → HasStage contents j s
+  settled_stage contents j status.Done decomposed h = granted_stage contents j h
+  settled_stage contents j status.Unresolved decomposed h = absurd h
+  settled_stage contents j status.Usage decomposed h = absurd h
+  settled_stage contents j status.Model decomposed h = model_stage contents j h.0 h.1
+  settled_stage contents j status.Part decomposed h = elim h [ inl out ↦ part_stage contents j out.0 out.1 | inr out ↦ split_stage contents j out.0 out.1 ]
+  settled_stage contents j status.Read decomposed h = absurd h
+  settled_stage contents j status.Write decomposed h = absurd h
+  settled_stage contents j status.Memory decomposed h = absurd h
+  settled_stage contents j status.Cert decomposed h = elim h [ inl out ↦ cert_stage contents j out.0 out.1 | inr r ↦ refused_stage contents j r.0 decomposed r.1 ]
+  settled_stage contents j status.TooLong decomposed h = too_long_stage contents j h.0 h.1
 
-  -- a refusal with its cause at a stage: so no other status is settled
-  at_stage : (contents : Contents) (job : Job) (t : Status) → Decomposes (Some contents) job → HasStage contents job t → EndsSettled (Some contents) job t
-  at_stage contents job t decomposed stage = λ s h. inl (one_status contents job t s stage (settled_stage contents job s decomposed h))
+  -- an end with its stage: so no other status is settled
+  at_stage : (contents : Contents) (j : Job) (t : Status) → Decomposes (Some contents) j → HasStage contents j t → EndsSettled (Some contents) j t
+  at_stage contents j t decomposed stage = λ s h. inl (one_status contents j t s stage (settled_stage contents j s decomposed h))
 
   -- an end before the model and the partition are accepted: nothing is accepted
-  early_stage : (contents : Contents) (job : Job) (t : Status) (stage : HasStage contents job t) → stage.stage < 4 → EndsSettled (Some contents) job t
-  early_stage contents job t stage early = at_stage contents job t (λ d a. absurd (stage.ends.fails (before_cert contents job (d, a) stage.stage early))) stage
+  early_stage : (contents : Contents) (j : Job) (t : Status) (stage : HasStage contents j t) → stage.stage < 5 → EndsSettled (Some contents) j t
+  early_stage contents j t stage early = at_stage contents j t (λ d a. absurd (stage.ends.fails (before_cert contents j (d, a) stage.stage early))) stage
+
+  -- the files show a verdict, or a split: so no other status is settled
+  pub holding_settled : (held : Option Contents) (j : Job) (holding : Holding) → HasCert j → Decomposes held j → ShownHolding held j holding → EndsSettled held j status.Done
+  holding_settled None j holding asked decomposed shown = tt
+  holding_settled (Some contents) (job.Split model part) holding asked decomposed shown = absurd asked
+  holding_settled (Some contents) (job.Check model part cert) holding asked decomposed shown = at_stage contents (job.Check model part cert) status.Done decomposed
+      (granted_stage contents (job.Check model part cert) (record {
+        split = shown.split;
+        accepted = shown.accepted;
+        certificate = shown.certificate;
+        reads = shown.reads;
+        passes = shown.passes;
+        fits = shown.fits;
+      }))
+
+  pub parts_settled : (held : Option Contents) (j : Job) (d : Decomposition) → HasNoCert j → Decomposes held j → ShownParts held j d → EndsSettled held j status.Done
+  parts_settled None j d asked decomposed shown = tt
+  parts_settled (Some contents) (job.Check model part cert) d asked decomposed shown = absurd asked
+  parts_settled (Some contents) (job.Split model part) d asked decomposed shown = at_stage contents (job.Split model part) status.Done decomposed
+      (granted_stage contents (job.Split model part) (d, shown.accepted))
 
   -- a refusal with its cause: so no other status is settled
-  pub refusal_settled : (held : Option Contents) (job : Job) (r : Refusal) → IsEarly r ⊎ Decomposes held job → IsCause held job r → EndsSettled held job (status_of r)
-  refusal_settled None job r end cause = tt
-  refusal_settled (Some contents) job refusal.Model end cause = early_stage contents job status.Model (model_stage contents job cause) (omega arith)
-  refusal_settled (Some contents) job refusal.Part end cause = early_stage contents job status.Part (part_stage contents job cause) (omega arith)
-  refusal_settled (Some contents) job (refusal.Cert f) (inl early) cause = absurd early
-  refusal_settled (Some contents) job (refusal.Cert f) (inr decomposed) cause = at_stage contents job status.Cert decomposed (cert_stage contents job f cause)
-  refusal_settled (Some contents) job (refusal.Check f) (inl early) cause = absurd early
-  refusal_settled (Some contents) job (refusal.Check f) (inr decomposed) cause = at_stage contents job status.Cert decomposed (refused_stage contents job f decomposed cause)
-  refusal_settled (Some contents) job (refusal.Read file) end cause = λ s h. inr (inl refl)
-  refusal_settled (Some contents) job (refusal.TooLong ModelFile) end cause = early_stage contents job status.TooLong (too_long_stage contents job ModelFile cause) (omega arith)
-  refusal_settled (Some contents) job (refusal.TooLong PartFile) end cause = early_stage contents job status.TooLong (too_long_stage contents job PartFile cause) (omega arith)
-  refusal_settled (Some contents) job (refusal.TooLong CertFile) (inl early) cause = absurd early
-  refusal_settled (Some contents) job (refusal.TooLong CertFile) (inr decomposed) cause = at_stage contents job status.TooLong decomposed (too_long_stage contents job CertFile cause)
-  refusal_settled (Some contents) job refusal.Memory end cause = λ s h. inr (inr (inr refl))
+  pub refusal_settled : (held : Option Contents) (j : Job) (r : Refusal) → IsEarly r ⊎ Decomposes held j → IsCause held j r → EndsSettled held j (status_of r)
+  refusal_settled None j r end cause = tt
+  refusal_settled (Some contents) j (refusal.Model f) end cause = early_stage contents j status.Model (model_stage contents j f cause) (omega arith)
+  refusal_settled (Some contents) j (refusal.Part f) end cause = early_stage contents j status.Part (part_stage contents j f cause) (omega arith)
+  refusal_settled (Some contents) j (refusal.Split u) end cause = early_stage contents j status.Part (split_stage contents j u cause) (omega arith)
+  refusal_settled (Some contents) j (refusal.Cert f) (inl early) cause = absurd early
+  refusal_settled (Some contents) j (refusal.Cert f) (inr decomposed) cause = at_stage contents j status.Cert decomposed (cert_stage contents j f cause)
+  refusal_settled (Some contents) j (refusal.Check f) (inl early) cause = absurd early
+  refusal_settled (Some contents) j (refusal.Check f) (inr decomposed) cause = at_stage contents j status.Cert decomposed (refused_stage contents j f decomposed cause)
+  refusal_settled (Some contents) j (refusal.Read file) end cause = λ s h. inr (inl refl)
+  refusal_settled (Some contents) j (refusal.TooLong ModelFile) end cause = early_stage contents j status.TooLong (too_long_stage contents j ModelFile cause) (omega arith)
+  refusal_settled (Some contents) j (refusal.TooLong PartFile) end cause = early_stage contents j status.TooLong (too_long_stage contents j PartFile cause) (omega arith)
+  refusal_settled (Some contents) j (refusal.TooLong CertFile) (inl early) cause = absurd early
+  refusal_settled (Some contents) j (refusal.TooLong CertFile) (inr decomposed) cause = at_stage contents j status.TooLong decomposed (too_long_stage contents j CertFile cause)
+  refusal_settled (Some contents) j refusal.Memory end cause = λ s h. inr (inr (inr refl))
 
-broken_of : (held : Option Contents) (job : Job) (ends : Status) → IsCutShort ends → EndsSettled held job ends
-broken_of None job ends b = tt
-broken_of (Some contents) job ends b = λ s h. inr b
+broken_of : (held : Option Contents) (j : Job) (ends : Status) → IsCutShort ends → EndsSettled held j ends
+broken_of None j ends b = tt
+broken_of (Some contents) j ends b = λ s h. inr b
 
--- a write that failed settles nothing
-pub write_settled : (held : Option Contents) (job : Job) → EndsSettled held job status.Write
-write_settled held job = broken_of held job status.Write (inr (inl refl))
+-- a write that failed settles nothing, nor does want of memory
+pub write_settled : (held : Option Contents) (j : Job) → EndsSettled held j status.Write
+write_settled held j = broken_of held j status.Write (inr (inl refl))
+
+pub memory_settled : (held : Option Contents) (j : Job) → EndsSettled held j status.Memory
+memory_settled held j = broken_of held j status.Memory (inr (inr refl))
 
 -- the status after the last text settles no more than it did before
-pub after_settled : {T E : Type 0} (put : Result T E) (held : Option Contents) (job : Job) (s : Status) → EndsSettled held job s → EndsSettled held job (status_after put s)
-after_settled (Ok _) held job s h = h
-after_settled (Err _) held job s h = write_settled held job
-
--- ---- the job of the words
-
--- the words ask for one job
-one_job : (words : List (List ℕ)) (j k : Job) → JobOf words j → JobOf words k → j ≡ k
-one_job words (AJob m p c) (AJob n q d) h k =
-    let same : codes "check" ∷ m ∷ p ∷ c ∷ [] ≡ codes "check" ∷ n ∷ q ∷ d ∷ [] = sym h.words_are ∙ k.words_are in
-    let at : (i : ℕ) → slice_index_or (codes "check" ∷ m ∷ p ∷ c ∷ []) i [] ≡ slice_index_or (codes "check" ∷ n ∷ q ∷ d ∷ []) i [] =
-    λ i. ap (λ (ws : List (List ℕ)). slice_index_or ws i []) same in
-    ap (λ (x : List ℕ). AJob x p c) (at 1) ∙ ap (λ (x : List ℕ). AJob n x c) (at 2) ∙ ap (λ (x : List ℕ). AJob n q x) (at 3)
-
-pub asked_settled : (words : List (List ℕ)) (job : Job) (held : Option Contents) (ends : Status) → JobOf words job → EndsSettled held job ends → EndsSettledAsked words held ends
-asked_settled words job held ends asked h other also = subst (λ (j : Job). EndsSettled held j ends) (one_job words job other asked also) h
-
-pub jobless_settled : (words : List (List ℕ)) (held : Option Contents) (ends : Status) → IsJobless words → EndsSettledAsked words held ends
-jobless_settled words held ends none job asked = absurd (none job asked)
-
-pub memory_settled : {T E : Type 0} (put : Result T E) (words : List (List ℕ)) (held : Option Contents) → EndsSettledAsked words held (status_after put status.Memory)
-memory_settled put words held job asked = after_settled put held job status.Memory (broken_of held job status.Memory (inr (inr refl)))
+pub after_settled : {T E : Type 0} (put : Result T E) (held : Option Contents) (j : Job) (s : Status) → EndsSettled held j s → EndsSettled held j (status_after put s)
+after_settled (Ok _) held j s h = h
+after_settled (Err _) held j s h = write_settled held j

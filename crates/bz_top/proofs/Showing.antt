@@ -19,9 +19,10 @@ use Rattle.bz_model.specs.declared.Parts.{Parts}
 use Rattle.bz_pass.specs.Laws.{IsDecomposed, PassingIsInfeasible, PassingIsOptimal, PassingIsUnbounded, PartsHaveAPoint}
 use Rattle.bz_pass.specs.PartPoints.{IsPointOf}
 use Rattle.bz_pass.specs.Verdicts.{PassesOptimal, objective_of}
-use Rattle.bz_top.specs.declared.holding.Holding.{Holding}
-use Rattle.bz_top.specs.declared.holding.Holding.TheVariants.{Optimal, Infeasible, Unbounded}
-use Rattle.bz_top.specs.Claims.{Accepted, Says, Shown, Shows, Told}
+use Rattle.bz_top.specs.declared.said.Holding.{Holding}
+use Rattle.bz_top.specs.declared.said.Holding.TheVariants.{Optimal, Infeasible, Unbounded}
+use Rattle.bz_top.specs.Claims.{Shows}
+use Rattle.bz_top.specs.Loads.{Accepted, Certified, Says, ShownHolding}
 
 swapped : (x y z : ℤ) → (x *ℤ y) *ℤ z ≡ (x *ℤ z) *ℤ y
 swapped x y z = *ℤ_assoc x y z ∙ ap (λ (t : ℤ). x *ℤ t) (*ℤ_comm y z) ∙ sym (*ℤ_assoc x z y)
@@ -79,26 +80,15 @@ true_of laws d c Unbounded split passes says =
         (passes_as d.model d.part c verdict.Unbounded (Some parts) says e passes)
 
 -- where the desk tells what it holds, the files show what the certificate says
-pub shows : AreTrue → (held : Option Contents) (job : Job) (d : Decomposition) (c : Certificate) (holding : Holding)
-    → IsSplit d → Accepted held job d → Told held job c → Passes d.model d.part c → Fits d.model d.part c → Says d c holding → Shown held job holding
-shows laws None job d c holding split accepted read passes fits says = tt
-shows laws (Some contents) job d c holding split accepted read passes fits says = record {
-  model_text = accepted.model.text;
-  part_text = accepted.part_text;
-  cert_text = read.text;
-  model = accepted.model.held;
-  part = accepted.part;
-  cert = read.held;
-  shows = record {
-    model = d.model;
-    part = d.part;
-    certificate = c;
-    model_is = accepted.model.reads;
-    part_is = accepted.part_is;
-    certificate_is = read.reads;
-    strict = split.strict;
-    passes = passes;
-    fits = fits;
-    shows = true_of laws d c holding split passes says;
-  };
+pub shows : AreTrue → (held : Option Contents) (j : Job) (d : Decomposition) (c : Certificate) (holding : Holding)
+    → IsSplit d → Accepted held j d → Certified held j c → Passes d.model d.part c → Fits d.model d.part c → Says d c holding → ShownHolding held j holding
+shows laws None j d c holding split accepted read passes fits says = tt
+shows laws (Some contents) j d c holding split accepted read passes fits says = record {
+  split = d;
+  accepted = accepted;
+  certificate = c;
+  reads = read;
+  passes = passes;
+  fits = fits;
+  shows = true_of laws d c holding split passes says;
 }

@@ -1,45 +1,51 @@
--- What the program claims of a check.
-use Rattle.std.specs.Prelude.{ℕ, ℤ, ◌≡◌, ◌⊎◌, ◌<◌, ◌≤◌, ◌*◌, List, length, Option, Some, None, IsSomeAnd, Result, Ok, Err}
+-- What the program claims of a job.
+use Rattle.std.specs.Prelude.{ℕ, ℤ, ◌≡◌, ◌⊎◌, ◌<◌, ◌≤◌, ◌+◌, ◌*◌, List, length, Option, Some, None, IsSomeAnd, Result, Ok, Err, slice_index_or}
 use Rattle.bz_algebra.specs.Fractions.{IsSameNumber}
-use Rattle.bz_check.specs.Fits.{Fits}
-use Rattle.bz_check.specs.CheckTests.{IsCheckFault}
-use Rattle.bz_check.specs.Passing.{Passes}
-use Rattle.bz_check.specs.Stated.{IsReduced, stated_fraction}
 use Rattle.bz_io.specs.Desk.{Contents, HoldsWith}
 use Rattle.bz_io.specs.Faults.{HasRisen}
 use Rattle.bz_io.specs.Sink.{Takes, TakesPrefix}
 use Rattle.bz_io.specs.Told.{WhereTold}
 use Rattle.bz_model.specs.declared.Model.{Model}
-use Rattle.bz_model.specs.Splits.{Decomposition}
 use Rattle.bz_model.specs.declared.Parts.{Parts}
+use Rattle.bz_model.specs.Parting.{blocks_of}
+use Rattle.bz_model.specs.Splits.{Decomposition}
 use Rattle.bz_model.specs.Points.{objective, IsOptimal, IsInfeasible, IsUnbounded}
 use Rattle.bz_model.specs.Strict.{IsStrict}
+use Rattle.bz_facts.specs.declared.MpsFault.{MpsFault}
+use Rattle.bz_mps.specs.FactModel.{ModelOf, MpsFaultOf}
+use Rattle.bz_part.specs.declared.PartFault.{PartFault as FaultOfPart}
+use Rattle.bz_part.specs.Partition.{PartFault, PartOf}
+use Rattle.bz_split.specs.declared.Unsplit.{Unsplit}
+use Rattle.bz_split.specs.Sizes.{rows_of_part}
+use Rattle.bz_split.specs.SplitFaults.{IsSplitFault}
 use Rattle.bz_cert.specs.declared.CertFault.{CertFault}
 use Rattle.bz_cert.specs.declared.Certificate.{Certificate}
 use Rattle.bz_cert.specs.declared.Verdict.TheVariants as verdict
 use Rattle.bz_cert.specs.CertFaults.{IsCertFault}
+use Rattle.bz_cert.specs.CertText.{IsCertText}
 use Rattle.bz_check.specs.declared.CheckFault.{CheckFault}
 use Rattle.bz_check.specs.declared.Stated.{Stated}
+use Rattle.bz_check.specs.CheckTests.{IsCheckFault}
+use Rattle.bz_check.specs.Fits.{Fits}
+use Rattle.bz_check.specs.Passing.{Passes}
+use Rattle.bz_check.specs.Stated.{IsReduced, stated_fraction}
 use Rattle.bz_pass.specs.Laws.{IsDecomposed}
 use Rattle.bz_pass.specs.PartPoints.{IsPointOf}
 use Rattle.bz_pass.specs.Verdicts.{objective_of}
-use Rattle.bz_lines.specs.declared.form.FormStop.{FormStop}
-use Rattle.bz_lines.specs.declared.form.FormStop.TheVariants.{Outside, OutOfMemory}
-use Rattle.bz_top.specs.declared.holding.Holding.{Holding}
-use Rattle.bz_top.specs.declared.holding.Holding.TheVariants.{Optimal, Infeasible, Unbounded}
 use Rattle.bz_top.specs.declared.job.Job.{Job}
+use Rattle.bz_top.specs.declared.job.Job.TheVariants as job
+use Rattle.bz_top.specs.declared.said.Holding.{Holding}
+use Rattle.bz_top.specs.declared.said.Holding.TheVariants.{Optimal, Infeasible, Unbounded}
+use Rattle.bz_top.specs.declared.said.Said.{Said}
 use Rattle.bz_top.specs.declared.status.File.{File}
 use Rattle.bz_top.specs.declared.status.File.TheVariants.{Model as ModelFile, Part as PartFile, Cert as CertFile}
 use Rattle.bz_top.specs.declared.status.Refusal.{Refusal}
 use Rattle.bz_top.specs.declared.status.Refusal.TheVariants as refusal
-use Rattle.bz_cert.specs.CertText.{IsCertText}
 use Rattle.bz_top.specs.declared.status.Status.{Status}
 use Rattle.bz_top.specs.declared.status.Status.TheVariants as status
 use Rattle.bz_top.specs.Ends.{name_of, status_of, refusal_text, file_of}
 use Rattle.bz_top.specs.Jobs.{JobOf, IsJobless}
-use Rattle.bz_mps.specs.ModelText.{IsModelText}
-use Rattle.bz_part.specs.PartText.{IsPartText}
-use Rattle.bz_top.specs.Texts.{holds_text, usage_text}
+use Rattle.bz_top.specs.Texts.{said_text, usage_text}
 
 -- the most bytes that a file may have: 16 MiB for a model and a partition, 64 MiB for a certificate
 abbrev pub limit_of : File → ℕ
@@ -47,6 +53,48 @@ limit_of ModelFile = 16 * 1024 * 1024
 limit_of PartFile = 16 * 1024 * 1024
 limit_of CertFile = 64 * 1024 * 1024
 
+-- the job has a certificate, to be checked
+abbrev pub HasCert : Job → Type 0
+HasCert (job.Check model part cert) = Unit {0}
+HasCert (job.Split model part) = ⊥
+
+-- the job is to print the parts of a split
+abbrev pub HasNoCert : Job → Type 0
+HasNoCert (job.Check model part cert) = ⊥
+HasNoCert (job.Split model part) = Unit {0}
+
+-- ---- what the files give
+-- the name holds the text, which is within the limit of the file
+pub record HoldsFile (contents : Contents) (j : Job) (file : File) (text : List ℕ) : Type 0 where
+  pub held : contents (name_of j file) ≡ Some text
+  pub within : length text ≤ limit_of file
+
+-- the file holds the model's text, and m is its model
+pub record ReadsModel (contents : Contents) (j : Job) (m : Model) : Type 0 where
+  pub text : List ℕ
+  pub held : HoldsFile contents j ModelFile text
+  pub reads : ModelOf text m
+
+-- the files hold the texts of a model and of a partition of it
+pub record ReadsPart (contents : Contents) (j : Job) (d : Decomposition) : Type 0 where
+  pub model : ReadsModel contents j d.model
+  pub text : List ℕ
+  pub held : HoldsFile contents j PartFile text
+  pub reads : PartOf text d.model d.part
+
+-- what the files of an accepted job give: a model and a strict partition of it
+pub record IsAccepted (contents : Contents) (j : Job) (d : Decomposition) : Type 0 where
+  pub part : ReadsPart contents j d
+  pub strict : IsStrict d.model d.part
+
+-- the file holds the certificate's text, and c is its certificate
+pub record ReadsCertificate (contents : Contents) (j : Job) (c : Certificate) : Type 0 where
+  pub asked : HasCert j
+  pub text : List ℕ
+  pub held : HoldsFile contents j CertFile text
+  pub reads : IsCertText text c
+
+-- ---- what is said
 -- The certificate says optimal: its parts have a point, that point is optimal in the model, and the stated fraction is its
 -- objective in lowest terms.
 pub record ShowsOptimum (m : Model) (part : List ℕ) (c : Certificate) (stated : Stated) : Type 0 where
@@ -66,267 +114,197 @@ Shows m part c (Optimal stated) = ShowsOptimum m part c stated
 Shows m part c Infeasible = (c.verdict ≡ verdict.Infeasible) × IsInfeasible m
 Shows m part c Unbounded = (c.verdict ≡ verdict.Unbounded) × IsUnbounded m
 
--- The texts are a model, a strict partition of it and a certificate that passes and fits. What it says is true.
-pub record ShowsVerdict (model_text part_text cert_text : List ℕ) (holding : Holding) : Type 0 where
-  pub model : Model
-  pub part : List ℕ
+-- The files are accepted and hold a certificate that passes and fits. What it says is true.
+pub record ShowsVerdict (contents : Contents) (j : Job) (holding : Holding) : Type 0 where
+  pub split : Decomposition
+  pub accepted : IsAccepted contents j split
   pub certificate : Certificate
-  pub model_is : IsModelText model_text model
-  pub part_is : IsPartText part_text model part
-  pub certificate_is : IsCertText cert_text certificate
-  pub strict : IsStrict model part
-  pub passes : Passes model part certificate
-  pub fits : Fits model part certificate
-  pub shows : Shows model part certificate holding
+  pub reads : ReadsCertificate contents j certificate
+  pub passes : Passes split.model split.part certificate
+  pub fits : Fits split.model split.part certificate
+  pub shows : Shows split.model split.part certificate holding
 
--- the name holds the text, which is within the limit of the file
-pub record HoldsFile (contents : Contents) (job : Job) (file : File) (text : List ℕ) : Type 0 where
-  pub held : contents (name_of job file) ≡ Some text
-  pub within : length text ≤ limit_of file
+-- the numbers are those of the rows of each part, the master's first
+pub record AreRowCounts (d : Decomposition) (rows : List ℕ) : Type 0 where
+  pub parts : length rows ≡ blocks_of d.part + 1
+  pub counts : (p : ℕ) → p ≤ blocks_of d.part → slice_index_or rows p 0 ≡ rows_of_part d.model d.part p
 
--- where the desk tells what it holds, the three files of the job show what is said
-pub record ShownBy (contents : Contents) (job : Job) (holding : Holding) : Type 0 where
-  pub model_text : List ℕ
-  pub part_text : List ℕ
-  pub cert_text : List ℕ
-  pub model : HoldsFile contents job ModelFile model_text
-  pub part : HoldsFile contents job PartFile part_text
-  pub cert : HoldsFile contents job CertFile cert_text
-  pub shows : ShowsVerdict model_text part_text cert_text holding
+-- the files are accepted and give the split, whose rows are counted
+pub record ShowsParts (contents : Contents) (j : Job) (d : Decomposition) : Type 0 where
+  pub asked : HasNoCert j
+  pub accepted : IsAccepted contents j d
 
-abbrev pub Shown : Option Contents → Job → Holding → Type 0
-Shown None job holding = Unit {0}
-Shown (Some contents) job holding = ShownBy contents job holding
+-- what the job comes to is what its files show
+abbrev pub ShownIn : Contents → Job → Said → Type 0
+ShownIn contents j (Said.Holds holding) = ShowsVerdict contents j holding
+ShownIn contents j (Said.Parts d rows) = ShowsParts contents j d
 
--- the file holds the model's text, and m is its model
-pub record ReadsModel (contents : Contents) (job : Job) (m : Model) : Type 0 where
-  pub text : List ℕ
-  pub held : HoldsFile contents job ModelFile text
-  pub reads : IsModelText text m
+abbrev pub Shown : Option Contents → Job → Said → Type 0
+Shown None j said = Unit {0}
+Shown (Some contents) j said = ShownIn contents j said
 
--- what the files of an accepted job give: a model and a strict partition of it
-pub record IsAccepted (contents : Contents) (job : Job) (d : Decomposition) : Type 0 where
-  pub model : ReadsModel contents job d.model
-  pub part_text : List ℕ
-  pub part : HoldsFile contents job PartFile part_text
-  pub part_is : IsPartText part_text d.model d.part
-  pub strict : IsStrict d.model d.part
+-- what the job comes to is of its kind, and rows are counted as they are
+abbrev pub IsOfJob : Job → Said → Type 0
+IsOfJob j (Said.Holds holding) = HasCert j
+IsOfJob j (Said.Parts d rows) = HasNoCert j × AreRowCounts d rows
 
-abbrev pub Accepted : Option Contents → Job → Decomposition → Type 0
-Accepted None job d = Unit {0}
-Accepted (Some contents) job d = IsAccepted contents job d
-
+-- ---- why a job is refused
 -- The file's turn comes: the files before it are accepted. The model comes first, then the partition, then the
--- certificate.
+-- certificate, where the job has one.
 abbrev pub IsReached : Contents → Job → File → Type 0
-IsReached contents job ModelFile = Unit {0}
-IsReached contents job PartFile = (m : Model) × ReadsModel contents job m
-IsReached contents job CertFile = (d : Decomposition) × IsAccepted contents job d
+IsReached contents j ModelFile = Unit {0}
+IsReached contents j PartFile = (m : Model) × ReadsModel contents j m
+IsReached contents j CertFile = HasCert j × ((d : Decomposition) × IsAccepted contents j d)
 
--- the file holds the certificate's text, and c is its certificate
-pub record ReadsCertificate (contents : Contents) (job : Job) (c : Certificate) : Type 0 where
+-- the model's text has the fault
+pub record IsModelRefused (contents : Contents) (j : Job) (fault : MpsFault) : Type 0 where
   pub text : List ℕ
-  pub held : HoldsFile contents job CertFile text
-  pub reads : IsCertText text c
+  pub held : HoldsFile contents j ModelFile text
+  pub is_fault : MpsFaultOf text fault.line fault.kind
 
--- the model's text is outside of its first form: it says no model
-pub record IsModelRefused (contents : Contents) (job : Job) : Type 0 where
+-- the partition's turn comes, and its text has the fault
+pub record IsPartRefused (contents : Contents) (j : Job) (fault : FaultOfPart) : Type 0 where
+  pub model : Model
+  pub reached : ReadsModel contents j model
   pub text : List ℕ
-  pub held : HoldsFile contents job ModelFile text
-  pub says_nothing : (m : Model) → IsModelText text m → ⊥
+  pub held : HoldsFile contents j PartFile text
+  pub is_fault : PartFault text model fault.line fault.kind
 
--- the partition's turn comes, and its text is outside of its first form: it says no strict partition of the model
-pub record IsPartRefused (contents : Contents) (job : Job) : Type 0 where
-  pub reached : IsReached contents job PartFile
-  pub text : List ℕ
-  pub held : HoldsFile contents job PartFile text
-  pub says_nothing : (d : Decomposition) → ReadsModel contents job d.model → IsPartText text d.model d.part → IsStrict d.model d.part → ⊥
+-- the texts give a model and a partition of it, by which it may not be solved for this reason
+pub record IsSplitRefused (contents : Contents) (j : Job) (u : Unsplit) : Type 0 where
+  pub reads : ReadsPart contents j (record { model = u.model; part = u.part })
+  pub is_fault : IsSplitFault u.model u.part u.fault
 
 -- the certificate's turn comes, and its text has the fault
-pub record IsCertRefused (contents : Contents) (job : Job) (fault : CertFault) : Type 0 where
-  pub reached : IsReached contents job CertFile
+pub record IsCertRefused (contents : Contents) (j : Job) (fault : CertFault) : Type 0 where
+  pub reached : IsReached contents j CertFile
   pub text : List ℕ
-  pub held : HoldsFile contents job CertFile text
+  pub held : HoldsFile contents j CertFile text
   pub is_fault : IsCertFault text fault.line fault.kind
 
 -- the three texts are read, and the certificate has the fault
-pub record IsCheckRefused (contents : Contents) (job : Job) (fault : CheckFault) : Type 0 where
+pub record IsCheckRefused (contents : Contents) (j : Job) (fault : CheckFault) : Type 0 where
   pub split : Decomposition
-  pub accepted : IsAccepted contents job split
+  pub accepted : IsAccepted contents j split
   pub certificate : Certificate
-  pub reads : ReadsCertificate contents job certificate
+  pub reads : ReadsCertificate contents j certificate
   pub is_fault : IsCheckFault split.model split.part certificate fault
 
 -- the file's turn comes, and it is longer than its limit
-pub record IsTooLong (contents : Contents) (job : Job) (file : File) : Type 0 where
-  pub reached : IsReached contents job file
-  pub too_long : IsSomeAnd (contents (name_of job file)) (λ text. limit_of file < length text)
-
--- a load of the file may end with the refusal: the file is longer than its limit where that is said, and where the
--- desk tells what it holds
-abbrev pub RefusesFile : Option Contents → Job → File → Refusal → Type 0
-RefusesFile held job file (refusal.Read f) = f ≡ file
-RefusesFile held job file (refusal.TooLong f) = (f ≡ file) × HoldsWith held (name_of job file) (λ text. limit_of file < length text)
-RefusesFile held job file refusal.Memory = Unit {0}
-RefusesFile held job file _ = ⊥
-
--- a check of the certificate may end with the refusal: the fault that it tells is the first one
-abbrev pub RefusesCheck : Decomposition → Certificate → Refusal → Type 0
-RefusesCheck d c (refusal.Check fault) = IsCheckFault d.model d.part c fault
-RefusesCheck d c refusal.Memory = Unit {0}
-RefusesCheck d c _ = ⊥
-
--- the file's contents give the certificate, where the desk tells them
-abbrev pub Told : Option Contents → Job → Certificate → Type 0
-Told None job c = Unit {0}
-Told (Some contents) job c = ReadsCertificate contents job c
-
--- a load of the certificate may end with the refusal, where the desk tells what it holds: its text has that fault, or the
--- file is too long
-abbrev pub RefusesCert : Option Contents → Job → Refusal → Type 0
-RefusesCert None job (refusal.Read file) = file ≡ CertFile
-RefusesCert None job (refusal.TooLong file) = file ≡ CertFile
-RefusesCert None job (refusal.Cert fault) = Unit {0}
-RefusesCert None job refusal.Memory = Unit {0}
-RefusesCert None job _ = ⊥
-RefusesCert (Some contents) job (refusal.Cert fault) = (text : List ℕ) × HoldsFile contents job CertFile text × IsCertFault text fault.line fault.kind
-RefusesCert (Some contents) job other = RefusesFile (Some contents) job CertFile other
-
--- every accepted decomposition of the job's files is one that the model may be solved by: the columns of its rows are
--- there, and so are the blocks of its partition
-abbrev pub Decomposes : Option Contents → Job → Type 0
-Decomposes None job = Unit {0}
-Decomposes (Some contents) job = (d : Decomposition) → IsAccepted contents job d → IsDecomposed d.model d.part
-
--- a refusal before the model and the partition are accepted
-abbrev pub IsEarly : Refusal → Type 0
-IsEarly refusal.Model = Unit {0}
-IsEarly refusal.Part = Unit {0}
-IsEarly (refusal.Cert _) = ⊥
-IsEarly (refusal.Check _) = ⊥
-IsEarly (refusal.Read _) = Unit {0}
-IsEarly (refusal.TooLong ModelFile) = Unit {0}
-IsEarly (refusal.TooLong PartFile) = Unit {0}
-IsEarly (refusal.TooLong CertFile) = ⊥
-IsEarly refusal.Memory = Unit {0}
-
--- the end is a refusal before the model and the partition are accepted, or what was accepted is a decomposition
-abbrev pub EndsDecomposed : {T : Type 0} → Option Contents → Job → Result T Refusal → Type 0
-EndsDecomposed held job (Ok _) = Decomposes held job
-EndsDecomposed held job (Err r) = IsEarly r ⊎ Decomposes held job
-
--- what a certificate that passes and fits says, with the objective that it states in lowest terms
-abbrev pub Says : Decomposition → Certificate → Holding → Type 0
-Says d c (Optimal stated) = (c.verdict ≡ verdict.Optimal) × ((parts : Parts) × (c.parts ≡ Some parts)
-    × IsSameNumber (stated_fraction stated) (objective_of d.model c.value parts.master.den) × IsReduced (stated_fraction stated))
-Says d c Infeasible = c.verdict ≡ verdict.Infeasible
-Says d c Unbounded = c.verdict ≡ verdict.Unbounded
+pub record IsTooLong (contents : Contents) (j : Job) (file : File) : Type 0 where
+  pub reached : IsReached contents j file
+  pub too_long : IsSomeAnd (contents (name_of j file)) (λ text. limit_of file < length text)
 
 -- what a refusal says of the contents
 abbrev pub IsCauseIn : Contents → Job → Refusal → Type 0
-IsCauseIn contents job refusal.Model = IsModelRefused contents job
-IsCauseIn contents job refusal.Part = IsPartRefused contents job
-IsCauseIn contents job (refusal.Cert fault) = IsCertRefused contents job fault
-IsCauseIn contents job (refusal.Check fault) = IsCheckRefused contents job fault
-IsCauseIn contents job (refusal.Read file) = IsReached contents job file
-IsCauseIn contents job (refusal.TooLong file) = IsTooLong contents job file
-IsCauseIn contents job refusal.Memory = Unit {0}
+IsCauseIn contents j (refusal.Model fault) = IsModelRefused contents j fault
+IsCauseIn contents j (refusal.Part fault) = IsPartRefused contents j fault
+IsCauseIn contents j (refusal.Split unsplit) = IsSplitRefused contents j unsplit
+IsCauseIn contents j (refusal.Cert fault) = IsCertRefused contents j fault
+IsCauseIn contents j (refusal.Check fault) = IsCheckRefused contents j fault
+IsCauseIn contents j (refusal.Read file) = IsReached contents j file
+IsCauseIn contents j (refusal.TooLong file) = IsTooLong contents j file
+IsCauseIn contents j refusal.Memory = Unit {0}
 
 -- a refusal has its cause, where the desk tells what it holds
 abbrev pub IsCause : Option Contents → Job → Refusal → Type 0
-IsCause None job refusal = Unit {0}
-IsCause (Some contents) job refusal = IsCauseIn contents job refusal
+IsCause None j r = Unit {0}
+IsCause (Some contents) j r = IsCauseIn contents j r
 
--- the three texts are read, and the certificate passes and fits
-pub record IsProven (contents : Contents) (job : Job) : Type 0 where
-  pub split : Decomposition
-  pub accepted : IsAccepted contents job split
-  pub certificate : Certificate
-  pub reads : ReadsCertificate contents job certificate
-  pub passes : Passes split.model split.part certificate
-  pub fits : Fits split.model split.part certificate
-
--- The contents settle the status: the certificate passes and fits, or the first of the files that is too long or outside of its
--- form, or else the check, gives a refusal. A status that depends on a fault or on memory is not settled by them.
-abbrev pub Settles : Contents → Job → Status → Type 0
-Settles contents job status.Done = IsProven contents job
-Settles contents job status.Unresolved = ⊥
-Settles contents job status.Usage = ⊥
-Settles contents job status.Model = IsModelRefused contents job
-Settles contents job status.Part = IsPartRefused contents job
-Settles contents job status.Read = ⊥
-Settles contents job status.Write = ⊥
-Settles contents job status.Memory = ⊥
-Settles contents job status.Cert = ((f : CertFault) × IsCertRefused contents job f) ⊎ ((f : CheckFault) × IsCheckRefused contents job f)
-Settles contents job status.TooLong = (file : File) × IsTooLong contents job file
-
--- a status that no text settles: a read or a write failed, or there is no memory
-abbrev pub IsCutShort : Status → Type 0
-IsCutShort s = (s ≡ status.Read) ⊎ ((s ≡ status.Write) ⊎ (s ≡ status.Memory))
-
--- where the desk tells what it holds, a check ends with the status that the contents settle, unless a read or a write
--- failed or there is no memory
-abbrev pub EndsSettled : Option Contents → Job → Status → Type 0
-EndsSettled None job ends = Unit {0}
-EndsSettled (Some contents) job ends = (settled : Status) → Settles contents job settled → (ends ≡ settled) ⊎ IsCutShort ends
-
+-- ---- how a job ends
 -- a load that failed raised the desk's count of faults, and any other end leaves it as it was
 abbrev pub CountsFiles : {T : Type 0} → Result T Refusal → ℕ → ℕ → Type 0
 CountsFiles (Ok _) before after = after ≡ before
 CountsFiles (Err (refusal.Read _)) before after = HasRisen before after
 CountsFiles (Err _) before after = after ≡ before
 
--- the refusal of a text that is outside of its first form
-abbrev pub refusal_of : Refusal → FormStop → Refusal
-refusal_of outside Outside = outside
-refusal_of outside OutOfMemory = refusal.Memory
-
--- The files of the job show a verdict, and its line was taken, where the desk and the sink tell that.
-pub record ShowsVerdictOf (held : Option Contents) (job : Job) (before after : Option (List ℕ)) : Type 0 where
-  pub holding : Holding
-  pub shown : Shown held job holding
-  pub printed : WhereTold (Takes (holds_text holding)) before after
+-- The job comes to what its files show, and the text of that was taken, where the desk and the sink tell that.
+pub record ShowsOf (held : Option Contents) (j : Job) (before after : Option (List ℕ)) : Type 0 where
+  pub said : Said
+  pub of_job : IsOfJob j said
+  pub shown : Shown held j said
+  pub printed : WhereTold (Takes (said_text said)) before after
 
 -- The status is that of a refusal with its cause, and its text was taken, where the desk and the sink tell that.
-pub record RefusesJob (held : Option Contents) (job : Job) (status : Status) (before after : Option (List ℕ)) : Type 0 where
+pub record RefusesJob (held : Option Contents) (j : Job) (ends : Status) (before after : Option (List ℕ)) : Type 0 where
   pub refusal : Refusal
-  pub status_is : status ≡ status_of refusal
-  pub cause : IsCause held job refusal
-  pub printed : WhereTold (Takes (refusal_text refusal (name_of job (file_of refusal)))) before after
+  pub status_is : ends ≡ status_of refusal
+  pub cause : IsCause held j refusal
+  pub printed : WhereTold (Takes (refusal_text refusal (name_of j (file_of refusal)))) before after
 
--- the text is the line of a verdict that the files show
-pub record SaysVerdict (held : Option Contents) (job : Job) (text : List ℕ) : Type 0 where
-  pub holding : Holding
-  pub shown : Shown held job holding
-  pub text_is : text ≡ holds_text holding
+-- the text is that of what the files show
+pub record SaysShown (held : Option Contents) (j : Job) (text : List ℕ) : Type 0 where
+  pub said : Said
+  pub of_job : IsOfJob j said
+  pub shown : Shown held j said
+  pub text_is : text ≡ said_text said
 
 -- the text is that of a refusal with its cause
-pub record SaysRefusal (held : Option Contents) (job : Job) (text : List ℕ) : Type 0 where
+pub record SaysRefusal (held : Option Contents) (j : Job) (text : List ℕ) : Type 0 where
   pub refusal : Refusal
-  pub cause : IsCause held job refusal
-  pub text_is : text ≡ refusal_text refusal (name_of job (file_of refusal))
+  pub cause : IsCause held j refusal
+  pub text_is : text ≡ refusal_text refusal (name_of j (file_of refusal))
 
 -- the text is one that the job may end with
 abbrev pub IsSaid : Option Contents → Job → List ℕ → Type 0
-IsSaid held job text = SaysVerdict held job text ⊎ SaysRefusal held job text
+IsSaid held j text = SaysShown held j text ⊎ SaysRefusal held j text
 
 -- a prefix of the text that the job ends with was taken, where the sink tells that
-pub record BreaksOff (held : Option Contents) (job : Job) (before after : Option (List ℕ)) : Type 0 where
+pub record BreaksOff (held : Option Contents) (j : Job) (before after : Option (List ℕ)) : Type 0 where
   pub text : List ℕ
-  pub said : IsSaid held job text
+  pub said : IsSaid held j text
   pub printed : WhereTold (TakesPrefix text) before after
 
--- The same of the job that the words ask for.
+-- ---- what the contents settle
+-- the three texts are read, and the certificate passes and fits
+pub record IsProven (contents : Contents) (j : Job) : Type 0 where
+  pub split : Decomposition
+  pub accepted : IsAccepted contents j split
+  pub certificate : Certificate
+  pub reads : ReadsCertificate contents j certificate
+  pub passes : Passes split.model split.part certificate
+  pub fits : Fits split.model split.part certificate
 
-pub record ShowsVerdictAsked (words : List (List ℕ)) (held : Option Contents) (before after : Option (List ℕ)) : Type 0 where
+-- all that the job asks for is there: a certificate that passes and fits, or a split
+abbrev pub IsGranted : Contents → Job → Type 0
+IsGranted contents (job.Check model part cert) = IsProven contents (job.Check model part cert)
+IsGranted contents (job.Split model part) = (d : Decomposition) × IsAccepted contents (job.Split model part) d
+
+-- The contents settle the status: the job's files give what it asks for, or the first of them that is too long or has a
+-- fault, or else the split or the check, gives a refusal. A status that depends on a fault or on memory is not settled by
+-- them.
+abbrev pub Settles : Contents → Job → Status → Type 0
+Settles contents j status.Done = IsGranted contents j
+Settles contents j status.Unresolved = ⊥
+Settles contents j status.Usage = ⊥
+Settles contents j status.Model = (f : MpsFault) × IsModelRefused contents j f
+Settles contents j status.Part = ((f : FaultOfPart) × IsPartRefused contents j f) ⊎ ((u : Unsplit) × IsSplitRefused contents j u)
+Settles contents j status.Read = ⊥
+Settles contents j status.Write = ⊥
+Settles contents j status.Memory = ⊥
+Settles contents j status.Cert = ((f : CertFault) × IsCertRefused contents j f) ⊎ ((f : CheckFault) × IsCheckRefused contents j f)
+Settles contents j status.TooLong = (file : File) × IsTooLong contents j file
+
+-- a status that no text settles: a read or a write failed, or there is no memory
+abbrev pub IsCutShort : Status → Type 0
+IsCutShort s = (s ≡ status.Read) ⊎ ((s ≡ status.Write) ⊎ (s ≡ status.Memory))
+
+-- where the desk tells what it holds, a job ends with the status that the contents settle, unless a read or a write failed
+-- or there is no memory
+abbrev pub EndsSettled : Option Contents → Job → Status → Type 0
+EndsSettled None j ends = Unit {0}
+EndsSettled (Some contents) j ends = (settled : Status) → Settles contents j settled → (ends ≡ settled) ⊎ IsCutShort ends
+
+-- ---- The same of the job that the words ask for.
+pub record ShowsAsked (words : List (List ℕ)) (held : Option Contents) (before after : Option (List ℕ)) : Type 0 where
   pub job : Job
   pub asked : JobOf words job
-  pub shows : ShowsVerdictOf held job before after
+  pub shows : ShowsOf held job before after
 
-pub record RefusesAsked (words : List (List ℕ)) (held : Option Contents) (status : Status) (before after : Option (List ℕ)) : Type 0 where
+pub record RefusesAsked (words : List (List ℕ)) (held : Option Contents) (ends : Status) (before after : Option (List ℕ)) : Type 0 where
   pub job : Job
   pub asked : JobOf words job
-  pub refuses : RefusesJob held job status before after
+  pub refuses : RefusesJob held job ends before after
 
 pub record BreaksOffAsked (words : List (List ℕ)) (held : Option Contents) (before after : Option (List ℕ)) : Type 0 where
   pub job : Job
@@ -335,7 +313,7 @@ pub record BreaksOffAsked (words : List (List ℕ)) (held : Option Contents) (be
 
 -- the status is the one that the contents settle for the job of the words
 abbrev pub EndsSettledAsked : List (List ℕ) → Option Contents → Status → Type 0
-EndsSettledAsked words held ends = (job : Job) → JobOf words job → EndsSettled held job ends
+EndsSettledAsked words held ends = (j : Job) → JobOf words j → EndsSettled held j ends
 
 -- a prefix of the usage line was taken, for words without a job
 pub record BreaksOffUsage (words : List (List ℕ)) (before after : Option (List ℕ)) : Type 0 where

@@ -7,8 +7,8 @@ use Rattle.bz_top.specs.declared.status.Refusal.TheVariants as refusal
 use Rattle.bz_top.specs.declared.status.Status.{Status}
 use Rattle.bz_top.specs.declared.status.Status.TheVariants as status
 use Rattle.bz_top.specs.declared.job.Job.{Job}
-use Rattle.bz_top.specs.declared.job.Job.TheVariants.{Check}
-use Rattle.bz_top.specs.Texts.{line, cert_fault, check_fault, check_word}
+use Rattle.bz_top.specs.declared.job.Job.TheVariants.{Check, Split}
+use Rattle.bz_top.specs.Texts.{line, cert_fault, check_fault, check_word, mps_fault, part_fault, split_fault}
 
 -- the number of a status
 abbrev pub number_of : Status → ℕ
@@ -23,16 +23,20 @@ number_of status.Memory = 7
 number_of status.Cert = 8
 number_of status.TooLong = 9
 
--- the name of a file of the job
+-- the name of a file of the job, empty where it has no such file
 abbrev pub name_of : Job → File → List ℕ
 name_of (Check model part cert) ModelFile = model
 name_of (Check model part cert) PartFile = part
 name_of (Check model part cert) CertFile = cert
+name_of (Split model part) ModelFile = model
+name_of (Split model part) PartFile = part
+name_of (Split model part) CertFile = []
 
 -- the status of a refusal
 abbrev pub status_of : Refusal → Status
-status_of refusal.Model = status.Model
-status_of refusal.Part = status.Part
+status_of (refusal.Model fault) = status.Model
+status_of (refusal.Part fault) = status.Part
+status_of (refusal.Split unsplit) = status.Part
 status_of (refusal.Cert fault) = status.Cert
 status_of (refusal.Check fault) = status.Cert
 status_of (refusal.Read file) = status.Read
@@ -41,8 +45,9 @@ status_of refusal.Memory = status.Memory
 
 -- what is printed of a refusal of the file with the name
 abbrev pub refusal_words : Refusal → List ℕ → List ℕ
-refusal_words refusal.Model name = codes "model: outside the first form"
-refusal_words refusal.Part name = codes "partition: outside the first form"
+refusal_words (refusal.Model fault) name = mps_fault fault
+refusal_words (refusal.Part fault) name = part_fault fault
+refusal_words (refusal.Split u) name = codes "split: " ++ split_fault u.model u.part u.fault
 refusal_words (refusal.Cert fault) name = cert_fault fault
 refusal_words (refusal.Check fault) name = check_word (check_fault fault)
 refusal_words (refusal.Read file) name = codes "read fault: " ++ name
@@ -55,8 +60,9 @@ refusal_text refusal name = line (refusal_words refusal name)
 
 -- the file that a refusal is of; the model's where it is of none
 abbrev pub file_of : Refusal → File
-file_of refusal.Model = ModelFile
-file_of refusal.Part = PartFile
+file_of (refusal.Model fault) = ModelFile
+file_of (refusal.Part fault) = PartFile
+file_of (refusal.Split unsplit) = PartFile
 file_of (refusal.Cert fault) = CertFile
 file_of (refusal.Check fault) = CertFile
 file_of (refusal.Read file) = file

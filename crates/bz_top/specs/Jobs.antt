@@ -1,7 +1,7 @@
 -- The words of the program, and the job that they ask for.
 use Rattle.std.specs.Prelude.{ℕ, ◌≡◌, ◌≢◌, List, [], ◌∷◌, codes}
 use Rattle.bz_top.specs.declared.job.Job.{Job}
-use Rattle.bz_top.specs.declared.job.Job.TheVariants.{Check}
+use Rattle.bz_top.specs.declared.job.Job.TheVariants.{Check, Split}
 
 -- a word that names a file: not empty, and without `-` (45) in front
 abbrev pub IsFileName : List ℕ → Type 0
@@ -15,9 +15,16 @@ pub record AsksToCheck (words : List (List ℕ)) (model part cert : List ℕ) : 
   pub part_name : IsFileName part
   pub cert_name : IsFileName cert
 
+-- the words are `split`, a model and a partition
+pub record AsksToSplit (words : List (List ℕ)) (model part : List ℕ) : Type 0 where
+  pub words_are : words ≡ codes "split" ∷ model ∷ part ∷ []
+  pub model_name : IsFileName model
+  pub part_name : IsFileName part
+
 -- the words ask for the job
 abbrev pub JobOf : List (List ℕ) → Job → Type 0
 JobOf words (Check model part cert) = AsksToCheck words model part cert
+JobOf words (Split model part) = AsksToSplit words model part
 
 -- the words ask for some job
 pub record SomeJob (words : List (List ℕ)) : Type 0 where

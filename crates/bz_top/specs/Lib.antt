@@ -1,5 +1,8 @@
 pub mod Claims
 pub mod Ends
 pub mod Jobs
+pub mod Loads
 pub mod Pieces
+pub mod Refusing
 pub mod Texts
+pub mod Words

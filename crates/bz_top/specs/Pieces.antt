@@ -1,5 +1,5 @@
 -- Texts by pieces.
-use Rattle.std.specs.Prelude.{ℕ, List, [], ◌∷◌, ◌++◌}
+use Rattle.std.specs.Prelude.{ℕ, pos, List, [], ◌∷◌, ◌++◌}
 use Rattle.std.specs.Fmt.{signed_decimal}
 use Rattle.bz_top.specs.declared.pieces.Piece.{Piece}
 
@@ -7,6 +7,7 @@ use Rattle.bz_top.specs.declared.pieces.Piece.{Piece}
 abbrev pub piece_text : Piece → List ℕ
 piece_text (Piece.Text bytes) = bytes.now
 piece_text (Piece.Number n) = signed_decimal n
+piece_text (Piece.Count n) = signed_decimal (pos n)
 
 -- the text of pieces, one after another
 abbrev pub pieces_text : List Piece → List ℕ

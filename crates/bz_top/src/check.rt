@@ -3,108 +3,30 @@ ghost use Rattle.std.specs.Prelude.{◌≡◌, ◌≤◌, length, IfErr, IfOk};
 ghost use Rattle.bz_cert.specs.Shapes.{IsShaped};
 ghost use Rattle.bz_check.specs.Fits.{Fits};
 ghost use Rattle.bz_check.specs.Passing.{Passes};
-ghost use Rattle.bz_io.specs.Desk.{Holds, IsSame};
+ghost use Rattle.bz_io.specs.Desk.{IsSame};
 ghost use Rattle.bz_io.specs.Told.{WhereTold};
 ghost use Rattle.bz_model.specs.Splits.{IsSplit};
-ghost use Rattle.bz_top.specs.Claims.{Accepted, CountsFiles, EndsDecomposed, IsCause, IsEarly, RefusesCert, RefusesCheck, RefusesFile, Says, Shown, Told, limit_of, refusal_of};
-ghost use Rattle.bz_top.specs.Ends.{name_of};
+ghost use Rattle.bz_top.specs.Claims.{CountsFiles, HasCert, IsCause};
+ghost use Rattle.bz_top.specs.Loads.{Certified, EndsDecomposed, Reached, RefusesCheck, Says, ShownHolding};
+ghost use Rattle.bz_top.specs.declared.status.File.TheVariants.{Cert as CertFile};
 
-use crate::holding::Holding;
 use crate::job::Job;
+use crate::loading::{load_file, load_split};
+use crate::said::Holding;
 use crate::status::{File, Refusal};
 use bz_cert::{CertStop, Certificate, Verdict, read_cert};
 use bz_check::{CheckFault, check, stated_of};
-use bz_io::{Desk, LoadError};
-use bz_lines::FormStop;
+use bz_io::Desk;
 use bz_model::Split;
-use bz_mps::read_model;
-use bz_part::read_part;
 use std::alloc::Global;
-
-/// The most bytes that a file may have.
-fn limit(file: File) -> usize
-    ensures { result ≡ limit_of file }
-{
-    match file {
-        File::Model | File::Part => 16 * 1024 * 1024,
-        File::Cert => 64 * 1024 * 1024,
-    }
-}
-
-/// The name of a file of the job.
-pub(crate) fn file_name(job: &Job, file: File) -> &str
-    ensures { result.now ≡ name_of job.now file }
-{
-    let Job::Check { model, part, cert } = job;
-    match file {
-        File::Model => model.as_str(),
-        File::Part => part.as_str(),
-        File::Cert => cert.as_str(),
-    }
-}
-
-/// The bytes of a file of the job.
-fn load_file<D: Desk>(
-    alloc: Global,
-    job: &Job,
-    file: File,
-    desk: &mut D,
-) -> Result<Vec<u8>, Refusal>
-    ensures whole { IfOk result (λ bytes. Holds (D.held desk.old) (name_of job.now file) bytes.items) }
-    ensures within { IfOk result (λ bytes. length bytes.items ≤ limit_of file) }
-    ensures refused { IfErr result (RefusesFile (D.held desk.old) job.now file) }
-    ensures kept { WhereTold IsSame (D.held desk.old) (D.held desk.new) }
-    ensures count { CountsFiles result (D.faults desk.old) (D.faults desk.new) }
-{
-    match desk.load(alloc, file_name(job, file), limit(file)) {
-        Ok(bytes) => Ok(bytes),
-        Err(LoadError::Failed) => Err(Refusal::Read(file)),
-        Err(LoadError::TooLong) => Err(Refusal::TooLong(file)),
-        Err(LoadError::OutOfMemory) => Err(Refusal::Memory),
-    }
-}
-
-/// The refusal of a text that was not read.
-fn refuse(outside: Refusal, stop: FormStop) -> Refusal
-    ensures { result ≡ refusal_of outside stop }
-{
-    match stop {
-        FormStop::Outside => outside,
-        FormStop::OutOfMemory => Refusal::Memory,
-    }
-}
-
-/// The split of the job's model by its partition.
-fn load_split<D: Desk>(alloc: Global, job: &Job, desk: &mut D) -> Result<Split, Refusal>
-    ensures accepted { IfOk result (Accepted (D.held desk.old) job.now) }
-    ensures split { IfOk result IsSplit }
-    ensures few_rows { IfOk result (λ s. length s.model.rows ≤ 2048) }
-    ensures cause { IfErr result (IsCause (D.held desk.old) job.now) }
-    ensures early { IfErr result IsEarly }
-    ensures kept { WhereTold IsSame (D.held desk.old) (D.held desk.new) }
-    ensures count { CountsFiles result (D.faults desk.old) (D.faults desk.new) }
-{
-    let text = load_file(alloc, job, File::Model, desk)?;
-    let model = match read_model(alloc, text.as_slice()) {
-        Ok(model) => model,
-        Err(stop) => return Err(refuse(Refusal::Model, stop)),
-    };
-    let text = load_file(alloc, job, File::Part, desk)?;
-    let part = match read_part(alloc, text.as_slice(), &model) {
-        Ok(part) => part,
-        Err(stop) => return Err(refuse(Refusal::Part, stop)),
-    };
-    match Split::new(alloc, model, part) {
-        Ok(split) => Ok(split),
-        Err(_) => Err(Refusal::Memory),
-    }
-}
 
 /// The job's certificate.
 fn load_cert<D: Desk>(alloc: Global, job: &Job, desk: &mut D) -> Result<Certificate, Refusal>
-    ensures reads { IfOk result (Told (D.held desk.old) job.now) }
+    requires asked { HasCert job.now }
+    requires reached { Reached (D.held desk.old) job.now CertFile }
+    ensures reads { IfOk result (Certified (D.held desk.old) job.now) }
     ensures shaped { IfOk result IsShaped }
-    ensures cause { IfErr result (RefusesCert (D.held desk.old) job.now) }
+    ensures cause { IfErr result (IsCause (D.held desk.old) job.now) }
     ensures kept { WhereTold IsSame (D.held desk.old) (D.held desk.new) }
     ensures count { CountsFiles result (D.faults desk.old) (D.faults desk.new) }
 {
@@ -160,7 +82,8 @@ pub(crate) fn check_files<D: Desk>(
     job: &Job,
     desk: &mut D,
 ) -> Result<Holding, Refusal>
-    ensures shown { IfOk result (Shown (D.held desk.old) job.now) }
+    requires { HasCert job.now }
+    ensures shown { IfOk result (ShownHolding (D.held desk.old) job.now) }
     ensures cause { IfErr result (IsCause (D.held desk.old) job.now) }
     ensures decomposed { EndsDecomposed (D.held desk.old) job.now result }
     ensures kept { WhereTold IsSame (D.held desk.old) (D.held desk.new) }

@@ -1,14 +1,10 @@
-//! Texts at the edges of their first forms, with what the program prints of them.
+//! Texts at the edges of what is read, with what the program prints of them.
 use crate::Status;
 use crate::tests::{CERT, Case, FIRST, MODEL, PART, ends};
 use std::alloc::{AllocError, Global};
 use std::test::Fail;
 
 const HOLDS: &str = "certificate holds: optimal 1\n";
-
-const NO_MODEL: &str = "model: outside the first form\n";
-
-const NO_PART: &str = "partition: outside the first form\n";
 
 /// A text of the smallest check with other lines in the place of some, and how the check ends.
 #[derive(Clone, Copy)]
@@ -20,7 +16,7 @@ struct Edge {
 }
 
 /// Models.
-const MODEL_EDGES: [Edge; 24] = [
+const MODEL_EDGES: [Edge; 33] = [
     // the last line feed is missing
     Edge {
         old: "ENDATA\n",
@@ -49,6 +45,20 @@ const MODEL_EDGES: [Edge; 24] = [
         status: Status::Done,
         text: HOLDS,
     },
+    // a comment
+    Edge {
+        old: "NAME ONE\n",
+        new: "* first \u{1}\nNAME ONE\n",
+        status: Status::Done,
+        text: HOLDS,
+    },
+    // the sense that holds without one
+    Edge {
+        old: "ROWS\n",
+        new: "OBJSENSE\n MIN\nROWS\n",
+        status: Status::Done,
+        text: HOLDS,
+    },
     // a right side of another set is tested for its fields alone
     Edge {
         old: " RHS LINK 1\n",
@@ -63,124 +73,173 @@ const MODEL_EDGES: [Edge; 24] = [
         status: Status::Done,
         text: HOLDS,
     },
-    // a carriage return at the end of the text
+    // a decimal with a sign, a point and an exponent
     Edge {
-        old: "ENDATA\n",
-        new: "ENDATA\r",
-        status: Status::Model,
-        text: NO_MODEL,
+        old: " RHS LINK 1\n",
+        new: " RHS LINK +0.10E+1\n",
+        status: Status::Done,
+        text: HOLDS,
     },
-    // a comment
+    // a set name that is left out
     Edge {
-        old: "NAME ONE\n",
-        new: "* first\nNAME ONE\n",
+        old: " RHS LINK 1\n",
+        new: " LINK 1\n",
+        status: Status::Done,
+        text: HOLDS,
+    },
+    // a bound that says what holds without it
+    Edge {
+        old: " UP BND x 1\n",
+        new: " UP BND x 1\n LO BND x 0\n",
+        status: Status::Done,
+        text: HOLDS,
+    },
+    // a header that no section has
+    Edge {
+        old: "BOUNDS\n",
+        new: "BOUND\n",
         status: Status::Model,
-        text: NO_MODEL,
+        text: "model line 12: 1 Section\n",
     },
     // RHS comes twice
     Edge {
         old: "BOUNDS\n",
         new: "RHS\nBOUNDS\n",
         status: Status::Model,
-        text: NO_MODEL,
+        text: "model line 12: 2 Order\n",
     },
-    // a header with a word more
+    // no objective
     Edge {
-        old: "BOUNDS\n",
-        new: "BOUNDS BND\n",
+        old: " N COST\n",
+        new: "",
         status: Status::Model,
-        text: NO_MODEL,
+        text: "model line 4: 3 NoObjective\n",
     },
-    // a number of 19 digits
+    // a row of another kind
     Edge {
-        old: " RHS LINK 1\n",
-        new: " RHS LINK 1000000000000000000\n",
+        old: " G LINK\n",
+        new: " Q LINK\n",
         status: Status::Model,
-        text: NO_MODEL,
+        text: "model line 4: 4 RowKind\n",
     },
-    // a sign in front of a number
+    // a row that comes twice
     Edge {
-        old: " RHS LINK 1\n",
-        new: " RHS LINK +1\n",
+        old: " G LINK\n",
+        new: " G LINK\n G LINK\n",
         status: Status::Model,
-        text: NO_MODEL,
-    },
-    // a zero in front of a number
-    Edge {
-        old: " RHS LINK 1\n",
-        new: " RHS LINK 01\n",
-        status: Status::Model,
-        text: NO_MODEL,
-    },
-    // a zero with a sign
-    Edge {
-        old: " RHS LINK 1\n",
-        new: " RHS LINK -0\n",
-        status: Status::Model,
-        text: NO_MODEL,
+        text: "model line 5: 5 DoubleName\n",
     },
     // a row that isn't there
     Edge {
         old: " RHS LINK 1\n",
         new: " RHS NONE 1\n",
         status: Status::Model,
-        text: NO_MODEL,
+        text: "model line 11: 6 UnknownRow\n",
     },
-    // a set name that is left out
+    // a column that isn't there
     Edge {
-        old: " RHS LINK 1\n",
-        new: " LINK 1\n",
+        old: " UP BND x 1\n",
+        new: " UP BND z 1\n",
         status: Status::Model,
-        text: NO_MODEL,
+        text: "model line 13: 7 UnknownColumn\n",
     },
     // an entry that comes twice
     Edge {
         old: " x COST 1 LINK 1\n",
         new: " x COST 1 LINK 1\n x LINK 1\n",
         status: Status::Model,
-        text: NO_MODEL,
+        text: "model line 8: 8 DoubleEntry\n",
+    },
+    // an exponent without digits
+    Edge {
+        old: " RHS LINK 1\n",
+        new: " RHS LINK 1e\n",
+        status: Status::Model,
+        text: "model line 11: 9 Number\n",
+    },
+    // an exponent above 30
+    Edge {
+        old: " RHS LINK 1\n",
+        new: " RHS LINK 1e31\n",
+        status: Status::Model,
+        text: "model line 11: 10 TooWide\n",
+    },
+    // a header with a word more
+    Edge {
+        old: "BOUNDS\n",
+        new: "BOUNDS BND\n",
+        status: Status::Model,
+        text: "model line 12: 11 Fields\n",
+    },
+    // a marker of another kind
+    Edge {
+        old: " M1 'MARKER' 'INTORG'\n",
+        new: " M1 'MARKER' 'INTO'\n",
+        status: Status::Model,
+        text: "model line 6: 12 Marker\n",
     },
     // a marker that stays open
     Edge {
         old: " M2 'MARKER' 'INTEND'\n",
         new: "",
         status: Status::Model,
-        text: NO_MODEL,
+        text: "model line 9: 13 MarkerOpen\n",
     },
-    // a column that comes again behind a marker
+    // a bound of another kind
     Edge {
-        old: " M2 'MARKER' 'INTEND'\n",
-        new: " M2 'MARKER' 'INTEND'\n x LINK 2\n",
+        old: " UP BND x 1\n",
+        new: " XX BND x 1\n",
         status: Status::Model,
-        text: NO_MODEL,
+        text: "model line 13: 14 BoundKind\n",
     },
     // a negative upper bound
     Edge {
         old: " UP BND x 1\n",
         new: " UP BND x -1\n",
         status: Status::Model,
-        text: NO_MODEL,
+        text: "model line 13: 15 NegativeUpper\n",
     },
-    // a bound of another kind
+    // a lower bound above the upper
     Edge {
         old: " UP BND x 1\n",
-        new: " UP BND x 1\n LO BND x 0\n",
+        new: " UP BND x 1\n LO BND x 2\n",
         status: Status::Model,
-        text: NO_MODEL,
-    },
-    // a bound of another set and another kind
-    Edge {
-        old: " UP BND x 1\n",
-        new: " UP BND x 1\n LO OTHER x 0\n",
-        status: Status::Model,
-        text: NO_MODEL,
+        text: "model line 14: 16 Crossed\n",
     },
     // ENDATA is missing
     Edge {
         old: "ENDATA\n",
         new: "",
         status: Status::Model,
-        text: NO_MODEL,
+        text: "model line 13: 17 NoEnd\n",
+    },
+    // a carriage return at the end of the text
+    Edge {
+        old: "ENDATA\n",
+        new: "ENDATA\r",
+        status: Status::Model,
+        text: "model line 14: 18 NotText\n",
+    },
+    // another sense
+    Edge {
+        old: "ROWS\n",
+        new: "OBJSENSE MOST\nROWS\n",
+        status: Status::Model,
+        text: "model line 2: 20 Sense\n",
+    },
+    // a column that comes again behind a marker
+    Edge {
+        old: " M2 'MARKER' 'INTEND'\n",
+        new: " M2 'MARKER' 'INTEND'\n x LINK 2\n",
+        status: Status::Model,
+        text: "model line 9: 21 SplitColumn\n",
+    },
+    // a section that isn't read
+    Edge {
+        old: "BOUNDS\n",
+        new: "SOS\n",
+        status: Status::Model,
+        text: "model line 12: 22 SectionOut\n",
     },
     // a number of 18 digits, which no point meets
     Edge {
@@ -192,7 +251,7 @@ const MODEL_EDGES: [Edge; 24] = [
 ];
 
 /// Partitions.
-const PART_EDGES: [Edge; 12] = [
+const PART_EDGES: [Edge; 15] = [
     // the last line feed is missing
     Edge {
         old: "x 0\n",
@@ -207,75 +266,96 @@ const PART_EDGES: [Edge; 12] = [
         status: Status::Done,
         text: HOLDS,
     },
+    // a comment
+    Edge {
+        old: "x 0\n",
+        new: "* first\nx 0\n",
+        status: Status::Done,
+        text: HOLDS,
+    },
+    // a column that is named with the number of the first line
+    Edge {
+        old: "x 0\n",
+        new: "x 0\ny 1\n",
+        status: Status::Done,
+        text: HOLDS,
+    },
     // no text
     Edge {
         old: "cpxBendersPartition 1\nx 0\n",
         new: "",
         status: Status::Part,
-        text: NO_PART,
-    },
-    // a comment
-    Edge {
-        old: "x 0\n",
-        new: "* first\nx 0\n",
-        status: Status::Part,
-        text: NO_PART,
-    },
-    // two blocks
-    Edge {
-        old: "Partition 1\n",
-        new: "Partition 2\n",
-        status: Status::Part,
-        text: NO_PART,
+        text: "partition line 0: 1 Head\n",
     },
     // a field more in the first line
     Edge {
         old: "Partition 1\n",
         new: "Partition 1 1\n",
         status: Status::Part,
-        text: NO_PART,
-    },
-    // a name that comes twice
-    Edge {
-        old: "x 0\n",
-        new: "x 0\nx 0\n",
-        status: Status::Part,
-        text: NO_PART,
-    },
-    // a column that isn't there
-    Edge {
-        old: "x 0\n",
-        new: "x 0\nz 0\n",
-        status: Status::Part,
-        text: NO_PART,
-    },
-    // a column that is put into block 1
-    Edge {
-        old: "x 0\n",
-        new: "x 0\ny 1\n",
-        status: Status::Part,
-        text: NO_PART,
+        text: "partition line 1: 1 Head\n",
     },
     // a field more in a line
     Edge {
         old: "x 0\n",
         new: "x 0 0\n",
         status: Status::Part,
-        text: NO_PART,
+        text: "partition line 2: 2 Fields\n",
+    },
+    // a column that isn't there
+    Edge {
+        old: "x 0\n",
+        new: "x 0\nz 0\n",
+        status: Status::Part,
+        text: "partition line 3: 3 Unknown\n",
+    },
+    // a name that comes twice
+    Edge {
+        old: "x 0\n",
+        new: "x 0\nx 0\n",
+        status: Status::Part,
+        text: "partition line 3: 4 Double\n",
+    },
+    // a zero in front of a number
+    Edge {
+        old: "x 0\n",
+        new: "x 00\n",
+        status: Status::Part,
+        text: "partition line 2: 5 Value\n",
+    },
+    // a block above 256
+    Edge {
+        old: "x 0\n",
+        new: "x 257\n",
+        status: Status::Part,
+        text: "partition line 2: 6 Limit\n",
+    },
+    // a block without columns
+    Edge {
+        old: "Partition 1\n",
+        new: "Partition 2\n",
+        status: Status::Part,
+        text: "partition line 0: 7 Gap\n",
+    },
+    // a byte that no text has
+    Edge {
+        old: "x 0\n",
+        new: "x 0\u{1}\n",
+        status: Status::Part,
+        text: "partition line 2: 8 NotText\n",
     },
     // an integer column in the block
     Edge {
         old: "x 0\n",
         new: "",
         status: Status::Part,
-        text: NO_PART,
+        text: "split: integer in block x 1\n",
     },
     // no column in the block
     Edge {
         old: "x 0\n",
         new: "x 0\ny 0\n",
         status: Status::Part,
-        text: NO_PART,
+        text: "split: open master y\n",
     },
 ];
 
@@ -556,7 +636,7 @@ fn refuses_a_certificate_that_is_too_long(rt: HostRuntime) -> Result<(), Fail> {
     let long = "x".repeat(rt.alloc(), 64 * 1024 * 1024 + 1)?;
     let all: [(&str, Status, &[u8]); 2] = [
         (PART, Status::TooLong, b"too long: c\n"),
-        ("", Status::Part, b"partition: outside the first form\n"),
+        ("", Status::Part, b"partition line 0: 1 Head\n"),
     ];
     for (part, status, text) in all {
         let case = Case {
@@ -577,7 +657,7 @@ fn refuses_a_certificate_that_is_too_long(rt: HostRuntime) -> Result<(), Fail> {
     assert_eq!(rt; ended, Status::Model);
     assert_eq!(rt;
         printed.as_slice(),
-        b"model: outside the first form\n".as_slice()
+        b"model line 0: 17 NoEnd\n".as_slice()
     );
     Ok(())
 }

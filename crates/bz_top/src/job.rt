@@ -47,4 +47,6 @@ pub enum Job {
         part: FileName,
         cert: FileName,
     },
+    /// Print the parts of a model by its partition.
+    Split { model: FileName, part: FileName },
 }

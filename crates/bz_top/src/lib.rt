@@ -4,11 +4,15 @@
 mod check;
 #[cfg(test)]
 mod edge_tests;
-mod holding;
 mod job;
+mod kinds;
+mod loading;
+mod parting;
 mod pieces;
 mod print;
+mod put_parts;
 mod running;
+mod said;
 mod status;
 #[cfg(test)]
 mod tests;

@@ -15,6 +15,8 @@ pub(crate) enum Piece<'a> {
     Text(&'a [u8]),
     /// A whole number in decimal.
     Number(i128),
+    /// A count in decimal.
+    Count(usize),
 }
 
 /// Puts one piece.
@@ -28,7 +30,11 @@ fn put_piece<O: Sink>(out: &mut O, piece: Piece) -> Result<(), PutFailed>
         Piece::Number(number) => {
             let mut buffer = Buffer::new();
             put_all(out, buffer.format(number).as_bytes())
-        }
+        },
+        Piece::Count(count) => {
+            let mut buffer = Buffer::new();
+            put_all(out, buffer.format(count).as_bytes())
+        },
     }
 }
 

@@ -5,14 +5,18 @@ ghost use Rattle.bz_io.specs.Desk.{IsSame};
 ghost use Rattle.bz_io.specs.Faults.{HasRisen};
 ghost use Rattle.bz_io.specs.Sink.{Takes};
 ghost use Rattle.bz_io.specs.Told.{WhereTold};
-ghost use Rattle.bz_top.specs.Claims.{EndsSettled, EndsSettledAsked, ShowsVerdictOf, ShowsVerdictAsked, RefusesJob, RefusesAsked, BreaksOff, BreaksOffAsked, BreaksOffUsage};
+ghost use Rattle.bz_top.specs.Claims.{EndsSettled, EndsSettledAsked, ShowsOf, ShowsAsked, RefusesJob, RefusesAsked, BreaksOff, BreaksOffAsked, BreaksOffUsage};
 ghost use Rattle.bz_top.specs.Ends.{status_after as after_put, IsRefused};
 ghost use Rattle.bz_top.specs.Jobs.{IsJobless};
+ghost use Rattle.bz_top.specs.Refusing.{Refuses};
 ghost use Rattle.bz_top.specs.Texts.{usage_text};
 
-use crate::check::{check_files, file_name};
+use crate::check::check_files;
 use crate::job::Job;
+use crate::loading::file_name;
+use crate::parting::split_files;
 use crate::print::{put_holds, put_refusal, put_usage};
+use crate::put_parts::put_parts;
 use crate::status::{Refusal, Status};
 use crate::words::{WordsFault, read_words};
 use bz_io::{Desk, PutFailed, Sink};
@@ -28,11 +32,19 @@ fn status_after(put: Result<(), PutFailed>, status: Status) -> Status
     }
 }
 
-/// Does the job: checks the certificate, and prints whether it holds.
+/// Puts the text of a refusal: the status after it.
+fn refuse<O: Sink>(out: &mut O, job: &Job, refusal: &Refusal) -> Status
+    ensures { Refuses job.now refusal.now (O.taken out.old) (O.taken out.new) (O.faults out.old) (O.faults out.new) result }
+{
+    let put = put_refusal(out, refusal, file_name(job, refusal.file()));
+    status_after(put, refusal.status())
+}
+
+/// Does the job: checks the certificate and prints whether it holds, or prints the parts of the split.
 pub fn do_alone<D: Desk, O: Sink>(alloc: Global, job: &Job, desk: &mut D, out: &mut O) -> Status
-    // What the line says is true of the model: the point of the certificate is optimal and the printed number is its
-    // objective, or no point is feasible, or for each number some feasible point is better.
-    ensures done { result ≡ Status.Done → ShowsVerdictOf (D.held desk.old) job.now (O.taken out.old) (O.taken out.new) }
+    // What is printed is what the files show. What a certificate is said to show is true of the model: its point is optimal
+    // and the printed number is its objective, or no point is feasible, or for each number some feasible point is better.
+    ensures done { result ≡ Status.Done → ShowsOf (D.held desk.old) job.now (O.taken out.old) (O.taken out.new) }
 
     // Every other status is that of a refusal with its cause and its text, or a text could not be put whole.
     ensures never { (result ≢ Status.Usage) × (result ≢ Status.Unresolved) }
@@ -51,21 +63,26 @@ pub fn do_alone<D: Desk, O: Sink>(alloc: Global, job: &Job, desk: &mut D, out: &
     // No name is changed.
     ensures kept { WhereTold IsSame (D.held desk.old) (D.held desk.new) }
 {
-    match check_files(alloc, job, desk) {
-        Ok(holding) => status_after(put_holds(out, holding), Status::Done),
-        Err(refusal) => status_after(
-            put_refusal(out, refusal, file_name(job, refusal.file())),
-            refusal.status(),
-        ),
+    match job {
+        Job::Check { .. } => match check_files(alloc, job, desk) {
+            Ok(holding) => status_after(put_holds(out, holding), Status::Done),
+            Err(refusal) => refuse(out, job, &refusal),
+        },
+        Job::Split { .. } => match split_files(alloc, job, desk) {
+            Ok((split, rows)) => {
+                status_after(put_parts(out, &split, rows.as_slice()), Status::Done)
+            },
+            Err(refusal) => refuse(out, job, &refusal),
+        },
     }
 }
 
 /// Does what the words ask for. This is all that the program does.
 pub fn run<D: Desk, O: Sink>(alloc: Global, words: &[String], desk: &mut D, out: &mut O) -> Status
-    // The words ask for the check of three files, and what the line says is true of the model: the point of the
-    // certificate is optimal and the printed number is its objective, or no point is feasible, or for each number some
-    // feasible point is better.
-    ensures done { result ≡ Status.Done → ShowsVerdictAsked (map string_bytes words.now) (D.held desk.old) (O.taken out.old) (O.taken out.new) }
+    // What is printed is what the files of the job show that the words ask for. What a certificate is said to show is true
+    // of the model: its point is optimal and the printed number is its objective, or no point is feasible, or for each
+    // number some feasible point is better.
+    ensures done { result ≡ Status.Done → ShowsAsked (map string_bytes words.now) (D.held desk.old) (O.taken out.old) (O.taken out.new) }
 
     // Words without a job are refused, and no others. The desk then has no fault; as any load may have one, none is made.
     ensures usage { result ≡ Status.Usage → IsJobless (map string_bytes words.now) }
@@ -96,7 +113,7 @@ pub fn run<D: Desk, O: Sink>(alloc: Global, words: &[String], desk: &mut D, out:
         Ok(job) => do_alone(alloc, &job, desk, out),
         Err(WordsFault::Usage) => status_after(put_usage(out), Status::Usage),
         Err(WordsFault::OutOfMemory) => {
-            status_after(put_refusal(out, Refusal::Memory, ""), Status::Memory)
+            status_after(put_refusal(out, &Refusal::Memory, ""), Status::Memory)
         }
     }
 }

@@ -4,11 +4,14 @@ ghost use Rattle.bz_top.specs.Ends.{number_of};
 
 use bz_cert::CertFault;
 use bz_check::CheckFault;
+use bz_facts::MpsFault;
+use bz_part::PartFault;
+use bz_split::Unsplit;
 
 /// How the program ends.
 #[derive(Clone, Copy, Debug, PartialEq, Eq)]
 pub enum Status {
-    /// The certificate holds, and its line is put whole.
+    /// The certificate holds, or the model has its parts, and what says so is put whole.
     Done,
     /// No verdict was reached.
     Unresolved,
@@ -50,7 +53,7 @@ impl Status {
     }
 }
 
-/// One of the three files of a check.
+/// One of the files of a job.
 #[derive(Clone, Copy, Debug, PartialEq, Eq)]
 pub(crate) enum File {
     Model,
@@ -58,13 +61,15 @@ pub(crate) enum File {
     Cert,
 }
 
-/// Why a check ends without a verdict.
-#[derive(Clone, Copy, Debug, PartialEq, Eq)]
+/// Why a job ends without what it asks for.
+#[derive(Drop)]
 pub(crate) enum Refusal {
-    /// The model's text is not of its first form.
-    Model,
-    /// The partition's text is not of its first form, or the partition is not strict.
-    Part,
+    /// The model's text has this fault.
+    Model(MpsFault),
+    /// The partition's text has this fault.
+    Part(PartFault),
+    /// The model has no split by the partition.
+    Split(Unsplit),
     /// The text is no certificate's.
     Cert(CertFault),
     /// The certificate does not pass, or its numbers do not fit.
@@ -81,12 +86,12 @@ impl Refusal {
     ghost use Rattle.bz_top.specs.Ends.{file_of, status_of};
 
     /// The status that the program ends with.
-    pub(crate) fn status(self) -> Status
-        ensures { result ≡ status_of self }
+    pub(crate) fn status(&self) -> Status
+        ensures { result ≡ status_of self.now }
     {
         match self {
-            Refusal::Model => Status::Model,
-            Refusal::Part => Status::Part,
+            Refusal::Model(_) => Status::Model,
+            Refusal::Part(_) | Refusal::Split(_) => Status::Part,
             Refusal::Cert(_) | Refusal::Check(_) => Status::Cert,
             Refusal::Read(_) => Status::Read,
             Refusal::TooLong(_) => Status::TooLong,
@@ -95,14 +100,14 @@ impl Refusal {
     }
 
     /// The file that it is of; the model's where it is of none.
-    pub(crate) fn file(self) -> File
-        ensures { result ≡ file_of self }
+    pub(crate) fn file(&self) -> File
+        ensures { result ≡ file_of self.now }
     {
         match self {
-            Refusal::Read(file) | Refusal::TooLong(file) => file,
+            Refusal::Read(file) | Refusal::TooLong(file) => *file,
             Refusal::Cert(_) | Refusal::Check(_) => File::Cert,
-            Refusal::Part => File::Part,
-            Refusal::Model | Refusal::Memory => File::Model,
+            Refusal::Part(_) | Refusal::Split(_) => File::Part,
+            Refusal::Model(_) | Refusal::Memory => File::Model,
         }
     }
 }

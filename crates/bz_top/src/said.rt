@@ -1,5 +1,7 @@
-//! What a certificate that holds says.
+//! What a job comes to.
 use bz_check::Stated;
+use bz_model::Split;
+use bz_num::Items;
 
 /// What a certificate that holds says.
 #[derive(Clone, Copy, Debug)]
@@ -10,4 +12,13 @@ pub(crate) enum Holding {
     Infeasible,
     /// For each number some feasible point is better.
     Unbounded,
+}
+
+/// What a job comes to that is not refused.
+#[derive(Drop)]
+pub(crate) enum Said {
+    /// The certificate holds.
+    Holds(Holding),
+    /// The model has these parts, and so many rows in each, the master's first.
+    Parts { split: Split, rows: Items<u32> },
 }

@@ -1,0 +1,70 @@
+//! The lines of the parts of a split.
+ghost use Rattle.std.specs.Prelude.{◌≡◌, ◌≤◌, ◌+◌, OnOk, OnErr, filter, length};
+ghost use Rattle.bz_io.specs.Faults.{CountsFault};
+ghost use Rattle.bz_io.specs.Sink.{Takes, TakesPrefix};
+ghost use Rattle.bz_io.specs.Told.{WhereTold};
+ghost use Rattle.bz_model.specs.Parting.{blocks_of};
+ghost use Rattle.bz_model.specs.Splits.{IsSplit};
+ghost use Rattle.bz_model.specs.Strict.{size_of};
+ghost use Rattle.bz_top.specs.Texts.{part_line, parts_text};
+
+use crate::pieces::Piece::{Count, Text};
+use crate::pieces::put_pieces;
+use bz_io::{PutFailed, Sink};
+use bz_model::{Column, Split};
+
+/// How many of the columns are integers.
+fn integers_among(columns: &[Column]) -> usize
+    ensures { result ≡ length (filter (λ column. column.integer) columns.now) }
+{
+    columns.iter().filter(|column| column.integer).count()
+}
+
+/// How many inequalities a part has, two counted for each integer column of the master.
+fn size(split: &Split, part: u32) -> usize
+    requires { part ≤ blocks_of split.now.part }
+    ensures { result ≡ size_of split.now.model split.now.part part }
+{
+    let rows = split.inequalities(part).len();
+    if part == 0 {
+        return rows + 2 * integers_among(split.model().columns.as_slice());
+    }
+    rows
+}
+
+/// Puts the line of a part.
+fn put_part<O: Sink>(out: &mut O, split: &Split, part: u32, rows: u32) -> Result<(), PutFailed>
+    requires { part ≤ blocks_of split.now.part }
+    ensures ok { OnOk result (WhereTold (Takes (part_line split.now part rows)) (O.taken out.old) (O.taken out.new)) }
+    ensures failed { OnErr result (WhereTold (TakesPrefix (part_line split.now part rows)) (O.taken out.old) (O.taken out.new)) }
+    ensures count { CountsFault result (O.faults out.old) (O.faults out.new) }
+{
+    put_pieces(
+        out,
+        &[
+            Text(b"part "),
+            Count(part as usize),
+            Text(b" columns "),
+            Count(split.columns_of(part).len()),
+            Text(b" rows "),
+            Count(rows as usize),
+            Text(b" inequalities "),
+            Count(size(split, part)),
+            Text(b"\n"),
+        ],
+    )
+}
+
+/// Puts the lines of the parts, with the number of rows of each, the master's first.
+pub(crate) fn put_parts<O: Sink>(out: &mut O, split: &Split, rows: &[u32]) -> Result<(), PutFailed>
+    requires split { IsSplit split.now }
+    requires rows { length rows.now ≡ blocks_of split.now.part + 1 }
+    ensures ok { OnOk result (WhereTold (Takes (parts_text split.now rows.now)) (O.taken out.old) (O.taken out.new)) }
+    ensures failed { OnErr result (WhereTold (TakesPrefix (parts_text split.now rows.now)) (O.taken out.old) (O.taken out.new)) }
+    ensures count { CountsFault result (O.faults out.old) (O.faults out.new) }
+{
+    for (part, count) in rows.iter().enumerate() {
+        put_part(out, split, part as u32, *count)?;
+    }
+    Ok(())
+}
