@@ -1,19 +1,16 @@
--- How the program ends behind what a job comes to, and which job words ask for.
-use Rattle.std.proofs.Common.{◌≡◌, ◌⊎◌, inl, inr, refl, ℕ, List, [], ◌∷◌, Option, Some, None, subst}
+-- How the program ends behind what a job comes to.
+use Rattle.std.proofs.Common.{◌≡◌, inl, refl, ℕ, List, Option, Some, None}
 use Rattle.std.specs.Prelude.{Result, Ok, Err, OnOk, OnErr}
 use Rattle.bz_io.specs.Desk.{Contents}
 use Rattle.bz_io.specs.Sink.{Takes, TakesPrefix}
 use Rattle.bz_io.specs.Told.{WhereTold}
 use Rattle.bz_model.specs.Splits.{Decomposition}
 use Rattle.bz_top.specs.declared.job.Job.{Job}
-use Rattle.bz_top.specs.declared.job.Job.TheVariants as job
 use Rattle.bz_top.specs.declared.said.Holding.{Holding}
 use Rattle.bz_top.specs.declared.said.Said.{Said}
-use Rattle.bz_top.specs.declared.status.Status.{Status}
 use Rattle.bz_top.specs.declared.status.Status.TheVariants as status
-use Rattle.bz_top.specs.Claims.{BreaksOff, EndsSettled, EndsSettledAsked, IsOfJob, Shown, ShowsOf}
+use Rattle.bz_top.specs.Claims.{BreaksOff, IsOfJob, Shown, ShowsOf}
 use Rattle.bz_top.specs.Ends.{status_after}
-use Rattle.bz_top.specs.Jobs.{JobOf}
 use Rattle.bz_top.specs.Loads.{ShownHolding, ShownParts}
 use Rattle.bz_top.specs.Texts.{said_text}
 
@@ -38,14 +35,3 @@ said_written (Err _) held j said before after of_job shown printed e = record {
   said = inl (record { said = said; of_job = of_job; shown = shown; text_is = refl });
   printed = printed;
 }
-
--- words ask for one job at most
-pub one_job : (words : List (List ℕ)) (i j : Job) → JobOf words i → JobOf words j → i ≡ j
-one_job words (job.Check m p c) (job.Check n q d) a b = let ea = a.words_are in let eb = b.words_are in cc
-one_job words (job.Check m p c) (job.Split n q) a b = let ea = a.words_are in let eb = b.words_are in absurd cc
-one_job words (job.Split m p) (job.Check n q d) a b = let ea = a.words_are in let eb = b.words_are in absurd cc
-one_job words (job.Split m p) (job.Split n q) a b = let ea = a.words_are in let eb = b.words_are in cc
-
--- what settles the status of the job that was done settles that of the words
-pub asked_settled : (words : List (List ℕ)) (held : Option Contents) (i : Job) (s : Status) → JobOf words i → EndsSettled held i s → EndsSettledAsked words held s
-asked_settled words held i s asked settled = λ j also. subst (λ (k : Job). EndsSettled held k s) (one_job words i j asked also) settled

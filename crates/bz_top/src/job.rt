@@ -48,5 +48,8 @@ pub enum Job {
         cert: FileName,
     },
     /// Print the parts of a model by its partition.
-    Split { model: FileName, part: FileName },
+    Split {
+        model: FileName,
+        part: FileName,
+    },
 }

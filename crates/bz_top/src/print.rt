@@ -14,9 +14,9 @@ use crate::said::Holding;
 use crate::status::Refusal;
 use bz_cert::CertFault;
 use bz_check::{CheckFault, Stated};
+use bz_facts::MpsFault;
 use bz_io::{PutFailed, Sink, put_all};
 use bz_model::Model;
-use bz_facts::MpsFault;
 use bz_part::PartFault;
 use bz_split::{SplitFault, Unsplit};
 

@@ -80,6 +80,17 @@ fn checks_the_smallest_model(rt: HostRuntime) -> Result<(), Fail> {
 }
 
 #[test]
+fn prints_the_parts_of_the_smallest_model(rt: HostRuntime) -> Result<(), Fail> {
+    let (status, printed) = ends(rt.alloc(), &["split", "m", "p"], &FIRST)?;
+    assert_eq!(rt; status, Status::Done);
+    assert_eq!(rt;
+        printed.as_slice(),
+        b"part 0 columns 1 rows 0 inequalities 2\npart 1 columns 1 rows 1 inequalities 2\n".as_slice()
+    );
+    Ok(())
+}
+
+#[test]
 fn refuses_a_bound_that_the_leaf_does_not_show(rt: HostRuntime) -> Result<(), Fail> {
     let case = Case {
         cert: WRONG_LEAF,

@@ -111,12 +111,7 @@ pub(crate) fn read_words(alloc: Global, words: &[String]) -> Result<Job, WordsFa
             part.as_str(),
             cert.as_str(),
         ),
-        [command, model, part] => of_three(
-            alloc,
-            command.as_str(),
-            model.as_str(),
-            part.as_str(),
-        ),
+        [command, model, part] => of_three(alloc, command.as_str(), model.as_str(), part.as_str()),
         _ => Err(WordsFault::Usage),
     }
 }

@@ -1,0 +1,29 @@
+use Rattle.std.proofs.Common.{rules, ◌≡◌, ◌⊎◌, List, ℕ, map, sym, subst}
+use Rattle.std.specs.Prelude.{Err}
+use Rattle.std.specs.String.{string_bytes}
+use Rattle.bz_top.specs.declared.status.Status.{Status}
+use Rattle.bz_top.specs.declared.status.Status.TheVariants as status
+use Rattle.bz_top.specs.Claims.{BreaksOffAsked, BreaksOffUsage, RefusesAsked}
+use Rattle.bz_top.specs.Ends.{IsRefused}
+use Rattle.bz_top.specs.Jobs.{SomeJob}
+use Rattle.bz_top.specs.Words.{ReadsWords}
+use Rattle.bz_top.proofs.RefusalEnds.{memory_refused, memory_written}
+use Rattle.bz_top.proofs.running.run.Goals as goal
+
+pub returns-in-Err-OutOfMemory-clause-refused : goal.returns-in-Err-OutOfMemory-clause-refused
+returns-in-Err-OutOfMemory-clause-refused g c =
+    let words = map (λ w. string_bytes w) c.args.words.now in
+    let held = g.D.Desk.held c.args.desk.now in
+    let some : SomeJob words = rw c.in-Err-OutOfMemory.field-0-is at c.in-Err-OutOfMemory.ensures in
+    subst (λ (s : Status). IsRefused s → RefusesAsked words held s (g.O.Sink.taken c.args.out.now) (g.O.Sink.taken c.put_refusal.new.out))
+    (sym c.status_after-in-Err-OutOfMemory.ensures)
+    (memory_refused c.put_refusal.result words held _ _ some c.put_refusal.ensures.ok)
+
+pub returns-in-Err-OutOfMemory-clause-written : goal.returns-in-Err-OutOfMemory-clause-written
+returns-in-Err-OutOfMemory-clause-written g c =
+    let words = map (λ w. string_bytes w) c.args.words.now in
+    let held = g.D.Desk.held c.args.desk.now in
+    let some : SomeJob words = rw c.in-Err-OutOfMemory.field-0-is at c.in-Err-OutOfMemory.ensures in
+    subst (λ (s : Status). s ≡ status.Write → BreaksOffAsked words held (g.O.Sink.taken c.args.out.now) (g.O.Sink.taken c.put_refusal.new.out) ⊎ BreaksOffUsage words (g.O.Sink.taken c.args.out.now) (g.O.Sink.taken c.put_refusal.new.out))
+    (sym c.status_after-in-Err-OutOfMemory.ensures)
+    (memory_written c.put_refusal.result words held _ _ some c.put_refusal.ensures.failed)
