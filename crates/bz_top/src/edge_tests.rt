@@ -534,7 +534,7 @@ fn changed(alloc: Global, text: &str, edge: &Edge) -> Result<String, AllocError>
 }
 
 #[test]
-fn ends_at_the_edges_as_the_forms_say(rt: HostRuntime) -> Result<(), Fail> {
+fn models_end_as_their_texts_say(rt: HostRuntime) -> Result<(), Fail> {
     for edge in MODEL_EDGES {
         let text = changed(rt.alloc(), MODEL, &edge)?;
         let model = text.as_str();
@@ -546,6 +546,11 @@ fn ends_at_the_edges_as_the_forms_say(rt: HostRuntime) -> Result<(), Fail> {
         assert_eq!(rt; ended, edge.status);
         assert_eq!(rt; printed.as_slice(), edge.text.as_bytes());
     }
+    Ok(())
+}
+
+#[test]
+fn partitions_end_as_their_texts_say(rt: HostRuntime) -> Result<(), Fail> {
     for edge in PART_EDGES {
         let text = changed(rt.alloc(), PART, &edge)?;
         let part = text.as_str();
@@ -557,6 +562,11 @@ fn ends_at_the_edges_as_the_forms_say(rt: HostRuntime) -> Result<(), Fail> {
         assert_eq!(rt; ended, edge.status);
         assert_eq!(rt; printed.as_slice(), edge.text.as_bytes());
     }
+    Ok(())
+}
+
+#[test]
+fn certificates_end_as_their_texts_say(rt: HostRuntime) -> Result<(), Fail> {
     for edge in CERT_EDGES {
         let text = changed(rt.alloc(), CERT, &edge)?;
         let cert = text.as_str();

@@ -1,6 +1,7 @@
 //! Worked certificates of the three verdicts through the top call, and what is printed of them.
 use crate::Status;
 use crate::tests::{Case, FIRST, ends};
+use std::alloc::{AllocError, Global};
 use std::test::Fail;
 
 /// Minimise 2 x + 3 y, where 2 x + y is at least 1, x is 0 or 1 in the master, and y in block 1 is not negative.
@@ -14,7 +15,7 @@ const TWO_LEAVES: &str =
 /// Texts in the place of others in that certificate, and what is printed.
 const CHANGES: [(&str, &str, &str); 17] = [
     // the text as it is
-    ("", "", "certificate holds: optimal 2\n"),
+    ("bzcert 1\n", "bzcert 1\n", "certificate holds: optimal 2\n"),
     // the sum has -3 at x where -2 is needed
     ("0 4 3 1", "0 3 3 1", "certificate: Leaf 1\n"),
     // the two sides don't meet
@@ -65,17 +66,18 @@ const CHANGES: [(&str, &str, &str); 17] = [
     ("master 1 1", "master 2 2", "certificate: Value\n"),
 ];
 
+/// The certificate with the new text in the place of the old one.
+fn changed(alloc: Global, old: &str, new: &str) -> Result<String, AllocError> {
+    TWO_LEAVES.replace(alloc, old, new)
+}
+
 #[test]
 fn checks_a_tree_of_two_leaves(rt: HostRuntime) -> Result<(), Fail> {
     for (old, new, text) in CHANGES {
-        let cert = TWO_LEAVES.replace(rt.alloc(), old, new)?;
+        let cert = changed(rt.alloc(), old, new)?;
         let case = Case {
             model: MODEL,
-            cert: if old.is_empty() {
-                TWO_LEAVES
-            } else {
-                cert.as_str()
-            },
+            cert: cert.as_str(),
             ..FIRST
         };
         let (_, printed) = ends(rt.alloc(), &["check", "m", "p", "c"], &case)?;
