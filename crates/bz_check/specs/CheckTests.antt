@@ -33,6 +33,7 @@ use Rattle.bz_cert.specs.declared.Verdict.{Verdict}
 use Rattle.bz_cert.specs.declared.Verdict.TheVariants.{Optimal, Infeasible, Unbounded}
 use Rattle.bz_check.specs.declared.faults.CheckFault.{CheckFault}
 use Rattle.bz_check.specs.declared.faults.CheckFault.TheVariants as fault
+use Rattle.bz_check.specs.WideLists.{value_sum, stated_numbers, master_sums, block_denominator, block_sums, cost_sums, cut_sums, leaf_sums, ray_sums}
 use Rattle.bz_check.specs.Sums.{row_pairs, value_pairs, sign_of, stated_pairs}
 
 abbrev pub Tests : Type 1
@@ -42,8 +43,8 @@ Tests = List (Test CheckFault)
 -- inequality n of the master at its point: its sum, its right side times the denominator, and that it holds
 abbrev pub in_master_tests : Master → ℕ × Ineq → Tests
 in_master_tests master e =
-    test (fault.Wide 3 e.0) (IsNarrowSum (row_pairs e.1.own master.x))
-    ∷ test (fault.Wide 3 e.0) (IsNarrow (e.1.rhs *ℤ master.den))
+    test (fault.Wide master_sums e.0) (IsNarrowSum (row_pairs e.1.own master.x))
+    ∷ test (fault.Wide master_sums e.0) (IsNarrow (e.1.rhs *ℤ master.den))
     ∷ test (fault.Point 0 e.0) (HoldsInMaster master e.1)
     ∷ []
 
@@ -60,17 +61,17 @@ integer_tests part box master sides e =
 -- together, its right side times the block's denominator, and that it holds
 abbrev pub in_block_tests : Master → ℕ → BlockPart → ℕ × Ineq → Tests
 in_block_tests master b block e =
-    test (fault.Wide 5 e.0) (IsNarrowSum (row_pairs e.1.master master.x))
-    ∷ test (fault.Wide 5 e.0) (IsNarrowSum (row_pairs e.1.own block.y))
-    ∷ test (fault.Wide 5 e.0) (IsNarrowSum ((block.times, dot e.1.master (coordinate master.x)) ∷ (pos 1, dot e.1.own (coordinate block.y)) ∷ []))
-    ∷ test (fault.Wide 5 e.0) (IsNarrow (e.1.rhs *ℤ (master.den *ℤ block.times)))
+    test (fault.Wide block_sums e.0) (IsNarrowSum (row_pairs e.1.master master.x))
+    ∷ test (fault.Wide block_sums e.0) (IsNarrowSum (row_pairs e.1.own block.y))
+    ∷ test (fault.Wide block_sums e.0) (IsNarrowSum ((block.times, dot e.1.master (coordinate master.x)) ∷ (pos 1, dot e.1.own (coordinate block.y)) ∷ []))
+    ∷ test (fault.Wide block_sums e.0) (IsNarrow (e.1.rhs *ℤ (master.den *ℤ block.times)))
     ∷ test (fault.Point b e.0) (HoldsInBlock master block e.1)
     ∷ []
 
 -- block b: its denominator, and its inequalities
 abbrev pub block_tests : Model → List ℕ → Master → ℕ × BlockPart → Tests
 block_tests m part master e =
-    test (fault.Wide 4 e.0) (IsNarrow (master.den *ℤ e.1.times))
+    test (fault.Wide block_denominator e.0) (IsNarrow (master.den *ℤ e.1.times))
     ∷ each_of (in_block_tests master e.0 e.1) (enumerate_from 0 (inequalities_of m part e.0))
 
 -- the point of the parts: the master's inequalities, the integer columns, and the blocks
@@ -84,18 +85,18 @@ point_tests m part root parts =
 -- block b: its inner cost, its eta times `times`, and that the one is at most the other
 abbrev pub cost_tests : Model → List ℕ → Master → ℕ × BlockPart → Tests
 cost_tests m part master e =
-    test (fault.Wide 6 e.0) (IsNarrowSum (row_pairs (terms_in part e.0 (inner_cost m)) e.1.y))
-    ∷ test (fault.Wide 6 e.0) (IsNarrow (eta_of master e.0 *ℤ e.1.times))
+    test (fault.Wide cost_sums e.0) (IsNarrowSum (row_pairs (terms_in part e.0 (inner_cost m)) e.1.y))
+    ∷ test (fault.Wide cost_sums e.0) (IsNarrow (eta_of master e.0 *ℤ e.1.times))
     ∷ test (fault.Cost e.0) (dot (terms_in part e.0 (inner_cost m)) (coordinate e.1.y) ≤ℤ (eta_of master e.0 *ℤ e.1.times))
     ∷ []
 
 -- the value is the master's inner cost with the etas, and the objective that it states is not wide
 abbrev pub value_tests : Model → List ℕ → Master → ℤ → Tests
 value_tests m part master value =
-    test (fault.Wide 1 0) (IsNarrowSum (value_pairs (terms_in part 0 (inner_cost m)) master))
+    test (fault.Wide value_sum 0) (IsNarrowSum (value_pairs (terms_in part 0 (inner_cost m)) master))
     ∷ test fault.Value (value ≡ dot (terms_in part 0 (inner_cost m)) (coordinate master.x) +ℤ total master.eta)
-    ∷ test (fault.Wide 2 0) (IsNarrowSum (stated_pairs m value master.den))
-    ∷ test (fault.Wide 2 1) (IsNarrow (m.scale *ℤ master.den))
+    ∷ test (fault.Wide stated_numbers 0) (IsNarrowSum (stated_pairs m value master.den))
+    ∷ test (fault.Wide stated_numbers 1) (IsNarrow (m.scale *ℤ master.den))
     ∷ []
 
 -- ---- the direction
@@ -106,7 +107,7 @@ ray_integer_tests ray e = test fault.Ray (OnTrue e.1.integer (coordinate ray e.0
 -- row r: its sum along the direction, which keeps its sides
 abbrev pub ray_row_tests : List ℤ → ℕ × Row → Tests
 ray_row_tests ray e =
-    test (fault.Wide 9 e.0) (IsNarrowSum (row_pairs e.1.terms ray)) ∷ test fault.Ray (RowAllows ray e.1) ∷ []
+    test (fault.Wide ray_sums e.0) (IsNarrowSum (row_pairs e.1.terms ray)) ∷ test fault.Ray (RowAllows ray e.1) ∷ []
 
 -- a column's number keeps its bounds
 abbrev pub ray_bound_tests : List ℤ → ℕ × Column → Tests
@@ -116,7 +117,7 @@ ray_bound_tests ray e =
 -- the inner cost falls along the direction
 abbrev pub ray_cost_tests : Model → List ℤ → Tests
 ray_cost_tests m ray =
-    test (fault.Wide 9 (length m.rows)) (IsNarrowSum (row_pairs (inner_cost m) ray))
+    test (fault.Wide ray_sums (length m.rows)) (IsNarrowSum (row_pairs (inner_cost m) ray))
     ∷ test fault.Ray (dot (inner_cost m) (coordinate ray) <ℤ pos 0)
     ∷ []
 
@@ -131,7 +132,7 @@ ray_tests m ray =
 -- the fault of cut i
 abbrev pub fault_of_cut : ℕ → CutFault → CheckFault
 fault_of_cut i of_cut.Invalid = fault.Cut i
-fault_of_cut i of_cut.Wide = fault.Wide 7 i
+fault_of_cut i of_cut.Wide = fault.Wide cut_sums i
 
 abbrev pub cuts_tests : Model → List ℕ → List Cut → Tests
 cuts_tests m part cuts = each_of (λ e. answered (fault_of_cut e.0) (cut_tests m part e.1)) (enumerate_from 0 cuts)
@@ -140,16 +141,16 @@ cuts_tests m part cuts = each_of (λ e. answered (fault_of_cut e.0) (cut_tests m
 -- the leaf at a node adds up on position i of the master, on the eta of block b + 1, and on the right sides
 abbrev pub leaf_master_tests : Model → List ℕ → List Ineq → ℕ → Leaf → ℕ → Tests
 leaf_master_tests m part sides node leaf i =
-    equation (fault.Leaf node) (fault.Wide 8 node) leaf.lambda (λ n. coef (master_at sides n) i)
+    equation (fault.Leaf node) (fault.Wide leaf_sums node) leaf.lambda (λ n. coef (master_at sides n) i)
     (leaf.delta *ℤ coef (terms_in part 0 (inner_cost m)) i) (neg_ℤ (leaf.delta *ℤ coef (terms_in part 0 (inner_cost m)) i))
 
 abbrev pub leaf_eta_tests : List Ineq → ℕ → Leaf → ℕ → Tests
 leaf_eta_tests sides node leaf b =
-    sum_is (fault.Leaf node) (fault.Wide 8 node) leaf.lambda (λ n. coef (own_at sides n) b) (neg_ℤ leaf.delta)
+    sum_is (fault.Leaf node) (fault.Wide leaf_sums node) leaf.lambda (λ n. coef (own_at sides n) b) (neg_ℤ leaf.delta)
 
 abbrev pub leaf_rhs_tests : List Ineq → ℕ → Leaf → Tests
 leaf_rhs_tests sides node leaf =
-    sum_is (fault.Leaf node) (fault.Wide 8 node) leaf.lambda (rhs_at sides) (neg_ℤ leaf.bound)
+    sum_is (fault.Leaf node) (fault.Wide leaf_sums node) leaf.lambda (rhs_at sides) (neg_ℤ leaf.bound)
 
 -- The leaf at a node over its sides: its multipliers, its sums, and then its signs and that it is as `Bounds` says.
 abbrev pub leaf_tests : Model → List ℕ → (Leaf → Type 0) → List Ineq → ℕ → Leaf → Tests

@@ -12,3 +12,4 @@ pub mod Stated
 pub mod Sums
 pub mod TreeGoals
 pub mod Walks
+pub mod WideLists

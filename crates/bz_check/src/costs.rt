@@ -8,7 +8,7 @@ ghost use Rattle.bz_check.specs.BlockShapes.{HasBlockShape};
 ghost use Rattle.bz_check.specs.CheckTests.{cost_tests};
 ghost use Rattle.bz_check.specs.Sums.{Begins, row_pairs};
 
-use crate::faults::CheckFault;
+use crate::faults::{COST_SUMS, CheckFault, wide_in};
 use bz_cut::{inner_cost_at, judge_at_most};
 use bz_model::{BlockPart, Master, Split};
 use bz_num::{Folding, WideSum};
@@ -54,7 +54,7 @@ fn judge_cost(split: &Split, master: &Master, b: u32, block: &BlockPart) -> Resu
     let sum = cost_sum(split, b, block.y.as_slice());
     let eta = master.eta.as_slice()[b as usize - 1];
     let broken = CheckFault::Cost { block: b };
-    let wide = CheckFault::Wide { list: 6, at: b };
+    let wide = wide_in(COST_SUMS, b);
     judge_at_most(sum, eta, block.times, broken, wide)
 }
 

@@ -5,7 +5,7 @@ ghost use Rattle.bz_cut.specs.CutTests.{cut_tests};
 ghost use Rattle.bz_cut.specs.Tests.{Judges, answered};
 ghost use Rattle.bz_check.specs.CheckTests.{cuts_tests, fault_of_cut};
 
-use crate::faults::CheckFault;
+use crate::faults::{CUT_SUMS, CheckFault, wide_in};
 use bz_cut::{Cut, CutFault, judge_cut};
 use bz_model::Split;
 
@@ -16,7 +16,7 @@ fn judge_one(split: &Split, i: u32, cut: &Cut) -> Result<(), CheckFault>
     match judge_cut(split, cut) {
         Ok(()) => Ok(()),
         Err(CutFault::Invalid) => Err(CheckFault::Cut { i }),
-        Err(CutFault::Wide) => Err(CheckFault::Wide { list: 7, at: i }),
+        Err(CutFault::Wide) => Err(wide_in(CUT_SUMS, i)),
     }
 }
 

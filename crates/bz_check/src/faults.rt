@@ -1,5 +1,37 @@
 //! Why a certificate is refused.
+ghost use Rattle.std.specs.Prelude.{◌≡◌};
+ghost use Rattle.bz_check.specs.declared.faults.CheckFault.TheVariants.{Wide};
+
 use std::alloc::AllocError;
+
+// The lists of sums that `CheckFault::Wide` names.
+
+/// The master's inner cost with the etas.
+pub(crate) const VALUE_SUM: u32 = 1;
+
+/// The numerator of the stated objective (place 0) and its denominator (place 1).
+pub(crate) const STATED_NUMBERS: u32 = 2;
+
+/// The sums of the master's inequalities.
+pub(crate) const MASTER_SUMS: u32 = 3;
+
+/// The denominators of the blocks' points.
+pub(crate) const BLOCK_DENOMINATOR: u32 = 4;
+
+/// The sums of the blocks' inequalities.
+pub(crate) const BLOCK_SUMS: u32 = 5;
+
+/// The blocks' inner costs and their etas.
+pub(crate) const COST_SUMS: u32 = 6;
+
+/// The sums of the cuts.
+pub(crate) const CUT_SUMS: u32 = 7;
+
+/// The sums of the leaves.
+pub(crate) const LEAF_SUMS: u32 = 8;
+
+/// The sums along the direction: of the rows, and behind them of the inner cost.
+pub(crate) const RAY_SUMS: u32 = 9;
 
 /// Why a certificate is refused: the first test that fails, in the order of these kinds but for `Wide`, which stands
 /// where its sum stands.
@@ -23,7 +55,7 @@ pub enum CheckFault {
     Cover { node: u32 },
     /// A leaf, by its node, doesn't hold in its box or bounds too little.
     Leaf { node: u32 },
-    /// A sum or a product is wide: which kind of sum, and where.
+    /// A sum or a product is wide: in which list of sums, by the numbers above, and at which place of it.
     Wide { list: u32, at: u32 },
     /// There is no memory.
     OutOfMemory,
@@ -49,4 +81,11 @@ impl From<bz_num::OutOfMemory> for CheckFault {
     fn from(_error: bz_num::OutOfMemory) -> CheckFault {
         CheckFault::OutOfMemory
     }
+}
+
+/// The fault of a wide sum or product, by its list of sums and its place there.
+pub(crate) fn wide_in(list: u32, at: u32) -> CheckFault
+    ensures { result ≡ Wide list at }
+{
+    CheckFault::Wide { list, at }
 }

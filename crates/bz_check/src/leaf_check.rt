@@ -9,7 +9,7 @@ ghost use Rattle.bz_check.specs.CheckTests.{leaf_eta_tests, leaf_master_tests, l
 ghost use Rattle.bz_check.specs.LeafSides.{AreSides, sides_in};
 ghost use Rattle.bz_check.specs.TreeGoals.{HasPositiveDen, bounds_of, leaf_sign_tests};
 
-use crate::faults::CheckFault;
+use crate::faults::{CheckFault, LEAF_SUMS, wide_in};
 use crate::leaf_sides::Sides;
 use crate::leaf_sums::{Place, side_sum};
 use crate::tree_goals::Goal;
@@ -19,19 +19,6 @@ use bz_cut::{
 use bz_model::Split;
 use bz_num::{cmp_quotients, narrow_negation};
 use bz_tree::Leaf;
-
-/// The kind of sums that a leaf's are.
-const LEAF_SUMS: u32 = 8;
-
-/// The fault of a leaf with a sum or product that is wide.
-fn wide(node: u32) -> CheckFault
-    ensures { result ≡ fault.Wide 8 node }
-{
-    CheckFault::Wide {
-        list: LEAF_SUMS,
-        at: node,
-    }
-}
 
 /// Tests that the multipliers are positive numbers at places of the sides.
 fn judge_multipliers(sides: &Sides, node: u32, leaf: &Leaf) -> Result<(), CheckFault>
@@ -59,7 +46,13 @@ fn judge_position(
 {
     let sum = side_sum(sides, &leaf.lambda, Place::Master(position));
     let cost = inner_cost_at(split, 0, position);
-    judge_opposite(sum, leaf.delta, cost, CheckFault::Leaf { node }, wide(node))
+    judge_opposite(
+        sum,
+        leaf.delta,
+        cost,
+        CheckFault::Leaf { node },
+        wide_in(LEAF_SUMS, node),
+    )
 }
 
 /// Tests the equations on the master's positions.
@@ -83,7 +76,12 @@ fn judge_eta(sides: &Sides, node: u32, leaf: &Leaf, eta: u32) -> Result<(), Chec
 {
     let sum = side_sum(sides, &leaf.lambda, Place::Eta(eta));
     let turned = narrow_negation(leaf.delta);
-    judge_sum(sum, turned, CheckFault::Leaf { node }, wide(node))
+    judge_sum(
+        sum,
+        turned,
+        CheckFault::Leaf { node },
+        wide_in(LEAF_SUMS, node),
+    )
 }
 
 /// Tests the sums on the etas.
@@ -108,7 +106,12 @@ fn judge_right_sides(sides: &Sides, node: u32, leaf: &Leaf) -> Result<(), CheckF
 {
     let sum = side_sum(sides, &leaf.lambda, Place::Right);
     let turned = narrow_negation(leaf.bound);
-    judge_sum(sum, turned, CheckFault::Leaf { node }, wide(node))
+    judge_sum(
+        sum,
+        turned,
+        CheckFault::Leaf { node },
+        wide_in(LEAF_SUMS, node),
+    )
 }
 
 /// Whether `value / den` is at most `bound / delta`. No product is formed.

@@ -13,7 +13,7 @@ ghost use Rattle.bz_pass.specs.PartPoints.{HasPointShape};
 ghost use Rattle.bz_check.specs.BlockShapes.{HasBlockShape};
 ghost use Rattle.bz_check.specs.LeftSides.{FitsLengths, left_side_of, left_side_tests};
 
-use crate::faults::CheckFault;
+use crate::faults::{BLOCK_DENOMINATOR, BLOCK_SUMS, CheckFault, MASTER_SUMS, wide_in};
 use crate::integers::judge_integers;
 use crate::numbers::{sum_at, sum_of};
 use bz_cut::{judge_at_most, judge_product, row_sum};
@@ -27,7 +27,7 @@ fn judge_in_master(master: &Master, n: u32, row: &Ineq) -> Result<(), CheckFault
 {
     let sum = row_sum(&row.own, master.x.as_slice());
     let broken = CheckFault::Point { part: 0, at: n };
-    let wide = CheckFault::Wide { list: 3, at: n };
+    let wide = wide_in(MASTER_SUMS, n);
     judge_at_most(sum, row.rhs, master.den, broken, wide)
 }
 
@@ -81,7 +81,7 @@ fn judge_in_block(
     requires den { den ≡ master.now.den *ℤ block.now.times }
     ensures { Judges (in_block_tests master.now b block.now (n, row.now)) result }
 {
-    let wide = CheckFault::Wide { list: 5, at: n };
+    let wide = wide_in(BLOCK_SUMS, n);
     let sum = left_side(master, block, row, wide)?;
     let side = judge_product(row.rhs, den, wide)?;
     if sum > side {
@@ -116,7 +116,7 @@ fn judge_block(split: &Split, master: &Master, b: u32, block: &BlockPart) -> Res
     requires y { length block.now.y ≡ width_of split.now.part b }
     ensures { Judges (block_tests split.now.model split.now.part master.now (b, block.now)) result }
 {
-    let den = judge_product(master.den, block.times, CheckFault::Wide { list: 4, at: b })?;
+    let den = judge_product(master.den, block.times, wide_in(BLOCK_DENOMINATOR, b))?;
     judge_block_rows(master, b, block, den, split.inequalities(b))
 }
 

@@ -12,7 +12,7 @@ ghost use Rattle.bz_pass.specs.Verdicts.{RowAllows};
 ghost use Rattle.bz_check.specs.CheckTests.{ray_bound_tests, ray_cost_tests, ray_integer_tests, ray_row_tests, ray_tests};
 ghost use Rattle.bz_check.specs.Sums.{row_pairs};
 
-use crate::faults::CheckFault;
+use crate::faults::{CheckFault, RAY_SUMS, wide_in};
 use crate::numbers::sum_at;
 use bz_cut::judge_fold;
 use bz_model::{Column, Model, Row, Split};
@@ -66,7 +66,7 @@ fn judge_row(r: u32, row: &Row, ray: &[i128]) -> Result<(), CheckFault>
     requires { AllBelow (length ray.now) row.now.terms }
     ensures { Judges (ray_row_tests ray.now (r, row.now)) result }
 {
-    let sum = sum_at(&row.terms, ray, CheckFault::Wide { list: 9, at: r })?;
+    let sum = sum_at(&row.terms, ray, wide_in(RAY_SUMS, r))?;
     if !row_allows(row, sum) {
         return Err(CheckFault::Ray);
     }
@@ -148,7 +148,7 @@ fn judge_ray_cost(model: &Model, ray: &[i128]) -> Result<(), CheckFault>
     ensures { Judges (ray_cost_tests model.now ray.now) result }
 {
     let at = model.rows.as_slice().len() as u32;
-    let cost = cost_along(model, ray, CheckFault::Wide { list: 9, at })?;
+    let cost = cost_along(model, ray, wide_in(RAY_SUMS, at))?;
     if cost >= 0 {
         return Err(CheckFault::Ray);
     }

@@ -12,7 +12,7 @@ ghost use Rattle.bz_check.specs.CheckTests.{value_tests};
 ghost use Rattle.bz_check.specs.Sums.{stated_pairs, value_pairs};
 
 use crate::costs::begin_cost;
-use crate::faults::CheckFault;
+use crate::faults::{CheckFault, STATED_NUMBERS, VALUE_SUM, wide_in};
 use crate::objective::numerator;
 use bz_cut::{judge_equal, judge_fold, judge_product};
 use bz_model::{Master, Model, Split};
@@ -37,10 +37,7 @@ fn judge_sum_of_value(split: &Split, master: &Master, value: i128) -> Result<(),
     requires eta { length master.now.eta ≡ blocks_of split.now.part }
     ensures { Judges (test (Wide 1 0) (IsNarrowSum (value_pairs (terms_in split.now.part 0 (inner_cost split.now.model)) master.now)) ∷ test Value (value ≡ dot (terms_in split.now.part 0 (inner_cost split.now.model)) (coordinate master.now.x) +ℤ total master.now.eta) ∷ []) result }
 {
-    let sum = judge_fold(
-        value_sum(split, master),
-        CheckFault::Wide { list: 1, at: 0 },
-    )?;
+    let sum = judge_fold(value_sum(split, master), wide_in(VALUE_SUM, 0))?;
     judge_equal(value, sum, CheckFault::Value)
 }
 
@@ -48,11 +45,8 @@ fn judge_sum_of_value(split: &Split, master: &Master, value: i128) -> Result<(),
 fn judge_stated(model: &Model, value: i128, den: i128) -> Result<(), CheckFault>
     ensures { Judges (test (Wide 2 0) (IsNarrowSum (stated_pairs model.now value den)) ∷ test (Wide 2 1) (IsNarrow (model.now.scale *ℤ den)) ∷ []) result }
 {
-    judge_fold(
-        numerator(model, value, den),
-        CheckFault::Wide { list: 2, at: 0 },
-    )?;
-    judge_product(model.scale, den, CheckFault::Wide { list: 2, at: 1 })?;
+    judge_fold(numerator(model, value, den), wide_in(STATED_NUMBERS, 0))?;
+    judge_product(model.scale, den, wide_in(STATED_NUMBERS, 1))?;
     Ok(())
 }
 

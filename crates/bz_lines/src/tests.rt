@@ -1,4 +1,5 @@
-//! Worked lines.
+//! Worked lines and names.
+use crate::names::Names;
 use crate::reader::{Line, LineFault, Lines};
 use std::alloc::{AllocError, Global};
 use std::test::Fail;
@@ -57,5 +58,28 @@ fn reads_worked_lines(rt: HostRuntime) -> Result<(), Fail> {
         let shown = lines_of(rt.alloc(), text)?;
         assert_eq!(rt; shown.as_slice(), lines);
     }
+    Ok(())
+}
+
+#[test]
+fn keeps_each_name_once(rt: HostRuntime) -> Result<(), Fail> {
+    let mut names = Names::new(rt.alloc());
+    for (name, place, new) in [
+        (b"x".as_slice(), 0, true),
+        (b"xy", 1, true),
+        (b"x", 0, false),
+        (b"X", 2, true),
+        (b"\xff", 3, true),
+        (b"xy", 1, false),
+    ] {
+        let added = names.add(name)?;
+        assert_eq!(rt; added.place, place);
+        assert_eq!(rt; added.new, new);
+        assert_eq!(rt; names.find(name), Some(place));
+    }
+    assert_eq!(rt; names.len(), 4);
+    assert_eq!(rt; names.find(b"y"), None);
+    assert_eq!(rt; names.at(1), b"xy".as_slice());
+    assert_eq!(rt; names.at(4), b"".as_slice());
     Ok(())
 }

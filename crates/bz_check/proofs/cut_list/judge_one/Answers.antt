@@ -1,6 +1,10 @@
+use Rattle.std.proofs.Common.{List, subst, sym}
+use Rattle.bz_cut.specs.declared.faults.CutFault.{CutFault}
 use Rattle.bz_cut.specs.declared.CutFault.TheVariants.{Invalid, Wide}
 use Rattle.bz_cut.specs.CutTests.{cut_tests}
+use Rattle.bz_cut.specs.Tests.{IsFirstFault, Test, answered}
 use Rattle.bz_cut.proofs.TestLemmas.{answered_fault, answered_hold}
+use Rattle.bz_check.specs.declared.faults.CheckFault.{CheckFault}
 use Rattle.bz_check.specs.CheckTests.{fault_of_cut}
 use Rattle.bz_check.proofs.cut_list.judge_one.Goals as goal
 
@@ -13,4 +17,8 @@ returns-in-Err-Invalid c =
 
 pub returns-in-Err-Wide : goal.returns-in-Err-Wide
 returns-in-Err-Wide c =
-    answered_fault (fault_of_cut c.args.i) (cut_tests c.args.split.now.model c.args.split.now.part c.args.cut.now) Wide (rw c.in-Err-Wide.field-0-is at c.in-Err-Wide.ensures)
+    let tests : List (Test CutFault) = cut_tests c.args.split.now.model c.args.split.now.part c.args.cut.now in
+    subst
+    (λ (f : CheckFault). IsFirstFault (answered (fault_of_cut c.args.i) tests) f)
+    (sym c.wide_in.ensures)
+    (answered_fault (fault_of_cut c.args.i) tests Wide (rw c.in-Err-Wide.field-0-is at c.in-Err-Wide.ensures))

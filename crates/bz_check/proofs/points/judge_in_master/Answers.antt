@@ -9,4 +9,4 @@ returns c =
     let sum : c.row_sum-sum.result ≡ fold_of (pairs_at c.args.row.now.own (coordinate c.args.master.now.x)) = search rules in
     let fits : FitsSigned w128 c.args.row.now.rhs = search rules in
     let fits_too : FitsSigned w128 c.args.master.now.den = search rules in
-    rw (to_z-of_z fits, to_z-of_z fits_too) at (c.judge_at_most.ensures c.args.row.now.own (coordinate c.args.master.now.x) sum)
+    rw (to_z-of_z fits, to_z-of_z fits_too, c.wide_in-wide.ensures) at (c.judge_at_most.ensures c.args.row.now.own (coordinate c.args.master.now.x) sum)

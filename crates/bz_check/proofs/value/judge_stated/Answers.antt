@@ -15,7 +15,7 @@ returns-in_err-judge_fold c =
     let front : List (Test CheckFault) = test (Wide 2 0) (IsNarrowSum (stated_pairs c.args.model.now c.args.value c.args.den)) ∷ [] in
     let rest : List (Test CheckFault) = test (Wide 2 1) (IsNarrow (c.args.model.now.scale *ℤ c.args.den)) ∷ [] in
     let sum : c.numerator.result ≡ fold_of (stated_pairs c.args.model.now c.args.value c.args.den) = rw (to_z-of_z c.ranges.value, to_z-of_z c.ranges.den) at c.numerator.ensures.fold in
-    passed_on (front ++ rest) c.in_err-judge_fold.field-0.0 c.from_residual.result c.from_residual.ensures.1 (fault_in_front front rest c.in_err-judge_fold.field-0.0 (c.in_err-judge_fold.ensures.judges (stated_pairs c.args.model.now c.args.value c.args.den) sum))
+    passed_on (front ++ rest) c.in_err-judge_fold.field-0.0 c.from_residual.result c.from_residual.ensures.1 (fault_in_front front rest c.in_err-judge_fold.field-0.0 (rw c.wide_in.ensures at c.in_err-judge_fold.ensures.judges (stated_pairs c.args.model.now c.args.value c.args.den) sum))
 
 pub returns-in_err-judge_product : goal.returns-in_err-judge_product
 returns-in_err-judge_product c =
