@@ -52,7 +52,7 @@ pub record HoldsColumns (seen : Lines) (t : ColumnTable) : Type 0 where
   pub names : t.names ≡ columns seen
   pub integers : t.integers.items ≡ integers seen
   pub entries : t.entries ≡ entries seen
-  pub opened : t.open ≡ is_open seen
+  pub opened : t.marked ≡ is_open seen
   pub current : is_in Columns seen ≡ true → (name : List ℕ) → is_noted t.current name ≡ goes_on (last_or None seen) name
 
 pub record HoldsGiven (h : Heading) (seen : Lines) (t : GivenTable) : Type 0 where

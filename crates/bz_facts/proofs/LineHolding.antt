@@ -20,7 +20,7 @@ use Rattle.bz_facts.proofs.LineAdding.{acts-data, acts-header, bounds-added, bou
 -- a header that passes isn't too long
 not_long : (t : Tables) (l : NumberedLine) (h : Heading) → l.header ≡ true → heading (field 0 l.fields) ≡ Some h → first_failing (line_tests_by t l) ≡ None → is_too_long (Some h) (length l.fields) ≡ false
 not_long t l h e w f =
-    let tests = header_tests_by t.headers t.sense t.columns.open t.rows.types l.fields in
+    let tests = header_tests_by t.headers t.sense t.columns.marked t.rows.types l.fields in
     let pass : NoneFails ((not l.text, NotText) ∷ tests) =
     none_fails ((not l.text, NotText) ∷ tests) (ap (λ b. first_failing ((not l.text, NotText) ∷ cond b tests (data_tests_by t.headers.section t l.fields))) (sym e) ∙ f) in
     ap (λ o. is_too_long o (length l.fields)) (sym w) ∙ pass.1.1.1.0

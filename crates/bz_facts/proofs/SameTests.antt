@@ -42,7 +42,7 @@ misplaced-same hs b (Some Ranges) a = λ i. not (a.columns i) || a.ranges i
 misplaced-same hs b (Some Bounds) a = λ i. not (a.columns i) || a.bounds i
 misplaced-same hs b (Some EndData) a = ap not a.columns
 
-header-same : (seen : Lines) (t : Tables) (fs : FieldList) → Holds seen t → header_tests_by t.headers t.sense t.columns.open t.rows.types fs ≡ header_tests seen fs
+header-same : (seen : Lines) (t : Tables) (fs : FieldList) → Holds seen t → header_tests_by t.headers t.sense t.columns.marked t.rows.types fs ≡ header_tests seen fs
 header-same seen t fs h =
     λ i. (is_left_out (field 0 fs), SectionOut)
     ∷ (is_none (heading (field 0 fs)), Section)

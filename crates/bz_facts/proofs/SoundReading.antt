@@ -66,9 +66,9 @@ sound-start t e = record {
 
 -- Headers.
 
-header_passes : (t : Tables) (l : NumberedLine) → l.header ≡ true → first_failing (line_tests_by t l) ≡ None → NoneFails (header_tests_by t.headers t.sense t.columns.open t.rows.types l.fields)
+header_passes : (t : Tables) (l : NumberedLine) → l.header ≡ true → first_failing (line_tests_by t l) ≡ None → NoneFails (header_tests_by t.headers t.sense t.columns.marked t.rows.types l.fields)
 header_passes t l e f =
-    let tests = header_tests_by t.headers t.sense t.columns.open t.rows.types l.fields in
+    let tests = header_tests_by t.headers t.sense t.columns.marked t.rows.types l.fields in
     (none_fails ((not l.text, NotText) ∷ tests) (ap (λ b. first_failing ((not l.text, NotText) ∷ cond b tests (data_tests_by t.headers.section t l.fields))) (sym e) ∙ f)).1
 
 -- COLUMNS has begun only where there is an objective
@@ -99,7 +99,7 @@ sound_header t new l e s f a =
 data_passes : (t : Tables) (l : NumberedLine) → l.header ≡ false → first_failing (line_tests_by t l) ≡ None → first_failing (data_tests_by t.headers.section t l.fields) ≡ None
 data_passes t l e f =
     let tests = data_tests_by t.headers.section t l.fields in
-    first_failing-none tests (none_fails ((not l.text, NotText) ∷ tests) (ap (λ b. first_failing ((not l.text, NotText) ∷ cond b (header_tests_by t.headers t.sense t.columns.open t.rows.types l.fields) tests)) (sym e) ∙ f)).1
+    first_failing-none tests (none_fails ((not l.text, NotText) ∷ tests) (ap (λ b. first_failing ((not l.text, NotText) ∷ cond b (header_tests_by t.headers t.sense t.columns.marked t.rows.types l.fields) tests)) (sym e) ∙ f)).1
 
 or_left : (a b : Bool) → a ≡ true → (a || b) ≡ true
 or_left true b e = refl
@@ -112,7 +112,7 @@ still_free types more e = list_any-append is_free types more ∙ or_left (list_a
 column_sound : (t : Tables) (new : ColumnTable) (fs : FieldList) (marker : Bool) → is_marker fs ≡ marker → AllByRecursion IsShort fs → IsSound t → first_failing (column_tests_by t.rows.names t.columns fs) ≡ None → MatchBool marker (MarkerAdded fs t.columns new) (EntriesAdded (field 0 fs) (entries_on t.rows.names t.columns.names fs) t.columns new) → SoundColumns (length t.rows.names) new
 column_sound t new fs true m l s f a = sound-marker (length t.rows.names) fs t.columns new s.columns a
 column_sound t new fs false m l s f a =
-    sound-entries t.rows.names fs t.columns new m s.columns (entries_pass t.rows.names t.columns fs l (sym (ap (λ b. first_failing (cond b (marker_tests t.columns.open (field 2 fs)) (entry_tests_by t.rows.names t.columns fs))) m) ∙ f)) a
+    sound-entries t.rows.names fs t.columns new m s.columns (entries_pass t.rows.names t.columns fs l (sym (ap (λ b. first_failing (cond b (marker_tests t.columns.marked (field 2 fs)) (entry_tests_by t.rows.names t.columns fs))) m) ∙ f)) a
 
 one_more : (names : List (List ℕ)) (name : List ℕ) → length names ≤ length (with_name names name)
 one_more names name = by (is_among names name)

@@ -237,7 +237,7 @@ sound-entries rows fs old new m s p a =
     let kept : AllByRecursion (IsEntryAmong (length new.names) (length rows)) old.entries =
     all-weaker (IsEntryAmong (length old.names) (length rows)) (IsEntryAmong (length new.names) (length rows)) (λ e h. record { column = omega (arith, h.column, size, not_fewer among (length old.names)); row = h.row; within = h.within }) old.entries s.entries in
     record {
-      integers = ap length a.integers ∙ length-append old.integers.items (cond among [] (old.open ∷ [])) ∙ omega (arith, one_each among old.open (length old.integers.items) (length old.names) s.integers, size);
+      integers = ap length a.integers ∙ length-append old.integers.items (cond among [] (old.marked ∷ [])) ∙ omega (arith, one_each among old.marked (length old.integers.items) (length old.names) s.integers, size);
       few_columns = omega (arith, size, room among (length old.names) s.few_columns columns);
       few_entries = omega (arith, few, ap length a.entries, length-append old.entries more);
       entries = subst (AllByRecursion (IsEntryAmong (length new.names) (length rows))) (sym a.entries) (all-append (IsEntryAmong (length new.names) (length rows)) old.entries more kept added);

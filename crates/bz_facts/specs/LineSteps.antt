@@ -114,14 +114,14 @@ entry_tests_by rows t fs =
     ∷ []
 
 abbrev pub column_tests_by : List (List ℕ) → ColumnTable → FieldList → TestList
-column_tests_by rows t fs = if is_marker fs then marker_tests t.open (field 2 fs) else entry_tests_by rows t fs
+column_tests_by rows t fs = if is_marker fs then marker_tests t.marked (field 2 fs) else entry_tests_by rows t fs
 
 -- a marker line
 pub record MarkerAdded (fs : FieldList) (old new : ColumnTable) : Type 0 where
   pub names : new.names ≡ old.names
   pub integers : new.integers.items ≡ old.integers.items
   pub entries : new.entries ≡ old.entries
-  pub opened : new.open ≡ bytes_eq (field 2 fs) opening
+  pub opened : new.marked ≡ bytes_eq (field 2 fs) opening
   pub current : new.current ≡ None
 
 -- the tests of a column's entries that come last: doubles, and then the limit
@@ -134,9 +134,9 @@ last_entry_tests t name more =
 -- entries of a column, which may be new
 pub record EntriesAdded (name : List ℕ) (more : List Entry) (old new : ColumnTable) : Type 0 where
   pub names : new.names ≡ with_name old.names name
-  pub integers : new.integers.items ≡ old.integers.items ++ (if is_among old.names name then [] else old.open ∷ [])
+  pub integers : new.integers.items ≡ old.integers.items ++ (if is_among old.names name then [] else old.marked ∷ [])
   pub entries : new.entries ≡ old.entries ++ more
-  pub opened : new.open ≡ old.open
+  pub opened : new.marked ≡ old.marked
   pub current : new.current ≡ Some name
 
 abbrev pub ColumnLineAdded : List (List ℕ) → FieldList → ColumnTable → ColumnTable → Type 0
@@ -192,7 +192,7 @@ data_tests_by _ t fs = (true, Section) ∷ []
 abbrev pub line_tests_by : Tables → NumberedLine → TestList
 line_tests_by t l =
     (not l.text, NotText)
-    ∷ (if l.header then header_tests_by t.headers t.sense t.columns.open t.rows.types l.fields else data_tests_by t.headers.section t l.fields)
+    ∷ (if l.header then header_tests_by t.headers t.sense t.columns.marked t.rows.types l.fields else data_tests_by t.headers.section t l.fields)
 
 -- a header
 pub record HeaderLineAdded (fs : FieldList) (old new : Tables) : Type 0 where

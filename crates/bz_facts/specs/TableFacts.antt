@@ -26,7 +26,7 @@ pub record AreEmpty (t : Tables) : Type 0 where
   pub columns : t.columns.names ≡ []
   pub integers : t.columns.integers.items ≡ []
   pub entries : t.columns.entries ≡ []
-  pub opened : t.columns.open ≡ false
+  pub opened : t.columns.marked ≡ false
   pub current : t.columns.current ≡ None
   pub right_set : t.right_sides.set ≡ None
   pub right_sides : t.right_sides.givens ≡ []

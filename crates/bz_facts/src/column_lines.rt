@@ -30,7 +30,7 @@ fn is_among(names: &Names, name: &[u8]) -> bool
 
 /// Reads a marker line.
 fn on_marker_line(columns: &mut Columns, fields: &[&[u8]]) -> Result<(), MpsKind>
-    ensures { let fs = map (λ f. f.now) fields.now in Passes (marker_tests columns.old.open (field_at 2 fs)) (λ _. MarkerAdded fs columns.old columns.new) result }
+    ensures { let fs = map (λ f. f.now) fields.now in Passes (marker_tests columns.old.marked (field_at 2 fs)) (λ _. MarkerAdded fs columns.old columns.new) result }
 {
     let word = field(fields, 2);
     let opens = word == b"'INTORG'".as_slice();
@@ -38,10 +38,10 @@ fn on_marker_line(columns: &mut Columns, fields: &[&[u8]]) -> Result<(), MpsKind
     if !(opens || closes) {
         return Err(MpsKind::Marker);
     }
-    if if columns.open { opens } else { closes } {
+    if if columns.marked { opens } else { closes } {
         return Err(MpsKind::MarkerOpen);
     }
-    columns.open = opens;
+    columns.marked = opens;
     columns.current = Noted::none();
     Ok(())
 }
@@ -121,7 +121,7 @@ fn enter<'a>(columns: &mut Columns<'a>, name: &'a [u8], pairs: Pairs) -> Result<
     if past {
         return Err(Refusal::Fault(MpsKind::Limit));
     }
-    note_integer(&mut columns.integers, column.new, columns.open)?;
+    note_integer(&mut columns.integers, column.new, columns.marked)?;
     columns.current = Noted::some(name);
     Ok(())
 }

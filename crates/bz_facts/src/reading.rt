@@ -65,7 +65,7 @@ fn no_tables<'a>(alloc: Global) -> Tables<'a>
             names: Names::new(alloc),
             integers: Vec::new(alloc),
             entries: Entries::new(alloc),
-            open: false,
+            marked: false,
             current: Noted::none(),
         },
         right_sides: no_givens(alloc),
@@ -79,12 +79,12 @@ fn no_tables<'a>(alloc: Global) -> Tables<'a>
 
 /// Reads a header.
 fn on_header_line<'a>(tables: &mut Tables<'a>, fields: &[&'a [u8]]) -> Result<(), Refusal>
-    ensures { let fs = map (λ f. f.now) fields.now in let t = tables.old in PassesLine (header_tests_by t.headers t.sense t.columns.open t.rows.types fs) (λ _. HeaderLineAdded fs t tables.new) result }
+    ensures { let fs = map (λ f. f.now) fields.now in let t = tables.old in PassesLine (header_tests_by t.headers t.sense t.columns.marked t.rows.types fs) (λ _. HeaderLineAdded fs t tables.new) result }
 {
     on_header(
         &mut tables.headers,
         &mut tables.sense,
-        tables.columns.open,
+        tables.columns.marked,
         &tables.rows.types,
         fields,
     )?;
@@ -157,7 +157,7 @@ fn facts_of(tables: Tables<'_>, end: u32) -> Facts<'_>
         names: columns,
         integers,
         entries,
-        open: _,
+        marked: _,
         current: _,
     } = columns;
     let GivenTable {

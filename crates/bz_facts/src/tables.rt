@@ -314,7 +314,7 @@ pub(crate) struct Columns<'a> {
     /// The entries.
     pub entries: Entries,
     /// Whether the last marker opens.
-    pub open: bool,
+    pub marked: bool,
     /// The column of the last line; none where that was a marker or the header.
     pub current: Noted<'a>,
 }
