@@ -104,7 +104,7 @@ found_within r count [] h = tt
 found_within r count (g ∷ gs) h = by (g.row == r) (found_within r count gs h.1)
   where
     by : (b : Bool) → AllByRecursion IsWithinLimits (option_to_list (given_at r gs)) → AllByRecursion IsWithinLimits (option_to_list (option_map (λ g. g.number) (cond b (Some g) (find (λ g. g.row == r) gs))))
-    by true rest = (h.0.within, tt)
+    by true rest = (h.0.read.within, tt)
     by false rest = rest
 
 or_zero_within : (o : Option Dec) → AllByRecursion IsWithinLimits (option_to_list o) → IsWithinLimits (unwrap_or o zero_dec)
@@ -119,7 +119,7 @@ all_decimals P (e ∷ es) rhs range h k g = (h.0, all_decimals P es rhs range h.
 pub row_facts_sound : (f : Facts) (r : ℕ) → AreSound f → AreRowFacts (entries_at r f.entries) (right_side_at f r) (given_at r f.ranges)
 row_facts_sound f r s = record {
   within = all_decimals IsWithinLimits (entries_at r f.entries) (right_side_at f r) (given_at r f.ranges)
-      (all_kept (λ e. IsWithinLimits e.number) (λ e. e.row == r) f.entries (all_weaker (IsEntryAmong (length f.columns) (length f.row_names)) (λ e. IsWithinLimits e.number) (λ e h. h.within) f.entries s.entries))
+      (all_kept (λ e. IsWithinLimits e.number) (λ e. e.row == r) f.entries (all_weaker (IsEntryAmong (length f.columns) (length f.row_names)) (λ e. IsWithinLimits e.number) (λ e h. h.read.within) f.entries s.entries))
       (or_zero_within (given_at r f.right_sides) (found_within r (length f.row_names) f.right_sides s.right_sides))
       (found_within r (length f.row_names) f.ranges s.ranges);
   rising = rise_at 0 r f.entries s.in_order s.entries_once;
@@ -128,7 +128,7 @@ row_facts_sound f r s = record {
 pub objective_facts_sound : (f : Facts) (r : ℕ) → AreSound f → AreRowFacts (entries_at r f.entries) (right_side_at f r) None
 objective_facts_sound f r s = record {
   within = all_decimals IsWithinLimits (entries_at r f.entries) (right_side_at f r) None
-      (all_kept (λ e. IsWithinLimits e.number) (λ e. e.row == r) f.entries (all_weaker (IsEntryAmong (length f.columns) (length f.row_names)) (λ e. IsWithinLimits e.number) (λ e h. h.within) f.entries s.entries))
+      (all_kept (λ e. IsWithinLimits e.number) (λ e. e.row == r) f.entries (all_weaker (IsEntryAmong (length f.columns) (length f.row_names)) (λ e. IsWithinLimits e.number) (λ e h. h.read.within) f.entries s.entries))
       (or_zero_within (given_at r f.right_sides) (found_within r (length f.row_names) f.right_sides s.right_sides)) tt;
   rising = rise_at 0 r f.entries s.in_order s.entries_once;
 }

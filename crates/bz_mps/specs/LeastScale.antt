@@ -1,13 +1,11 @@
 -- Powers of ten that make a row whole.
-use Rattle.std.specs.Prelude.{ℕ, ℤ, pos, ◌≡◌, ◌≤◌, ◌^◌, ◌*ℤ◌, ◌⊎◌, List, Option, IfSome}
-use Rattle.std.specs.Int.{◌∣◌}
-use Rattle.std.specs.Int.RustNames.{unsigned_abs}
+use Rattle.std.specs.Prelude.{ℕ, ℤ, pos, ◌≡◌, ◌≤◌, ◌^◌, ◌*ℤ◌, List, Option, IfSome}
 use Rattle.std.specs.List.{AllByRecursion}
 use Rattle.std.specs.Option.{option_map}
 use Rattle.bz_num.specs.declared.Dec.{Dec}
-use Rattle.bz_num.specs.Decimals.{IsWithinLimits}
 use Rattle.bz_facts.specs.declared.Entry.{Entry}
 use Rattle.bz_facts.specs.declared.RowType.{RowType}
+use Rattle.bz_facts.specs.SoundFacts.{IsReadDecimal}
 use Rattle.bz_facts.specs.Spellings.{at_thirty}
 use Rattle.bz_mps.specs.ScaledRows.{decimals_of, lower_side, upper_side}
 
@@ -26,11 +24,6 @@ pub record AreWholeAt (k : ℕ) (t : RowType) (entries : List Entry) (rhs : Dec)
 pub record IsLeastScale (k : ℕ) (t : RowType) (entries : List Entry) (rhs : Dec) (range : Option Dec) : Type 0 where
   pub whole : AreWholeAt k t entries rhs range
   pub least : (j : ℕ) → AreWholeAt j t entries rhs range → k ≤ j
-
--- a decimal of a text: within its limits, and with no zero at its end unless it is 0, with the exponent 0
-pub record IsReadDecimal (d : Dec) : Type 0 where
-  pub within : IsWithinLimits d
-  pub ends : (d.exp ≡ pos 0) ⊎ (10 ∣ unsigned_abs d.mant → ⊥)
 
 -- all decimals of a row are decimals of a text
 abbrev pub AreReadDecimals : List Entry → Dec → Option Dec → Type 0
