@@ -5,6 +5,7 @@ pub mod EndLemmas
 pub mod FractionLaws
 pub mod ModelLaws
 pub mod ModelLemmas
+pub mod ModelsMade
 pub mod NameLaws
 pub mod PlacedItems
 pub mod RowLemmas

@@ -1,5 +1,5 @@
 //! What the definitions say of models.
-ghost use Rattle.std.specs.Prelude.{◌≡◌, ◌≤◌, ℕ, false, length, List, Option};
+ghost use Rattle.std.specs.Prelude.{◌≡◌, ◌<◌, ◌≤◌, ◌-◌, ◌^◌, ◌⊎◌, ℕ, false, length, List, Option};
 ghost use Rattle.bz_num.specs.declared.Dec.{Dec};
 ghost use Rattle.bz_model.specs.declared.Model.{Model};
 ghost use Rattle.bz_model.specs.Strict.{HasItsColumns};
@@ -16,6 +16,11 @@ ghost use Rattle.bz_mps.specs.ScaledRows.{decimals_of, most_digits};
 /// A text has at most one model. Nothing runs.
 pub fn mps_text_has_one_model()
     ensures { (text : List ℕ) (m n : Model) → ModelOf text m → ModelOf text n → m ≡ n }
+{}
+
+/// A text of fewer than 2^63 - 1 bytes has a model or a fault. Nothing runs.
+pub fn mps_text_has_model_or_fault()
+    ensures { (text : List ℕ) → length text < 2 ^ 63 - 1 → ((m : Model) × ModelOf text m) ⊎ ((line : ℕ) × ((kind : MpsKind) × MpsFaultOf text line kind)) }
 {}
 
 /// A text that has a model has no fault, and a text has one fault alone. Nothing runs.
