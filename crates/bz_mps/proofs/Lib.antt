@@ -3,6 +3,7 @@ pub mod ColumnSteps
 pub mod DigitLemmas
 pub mod EndLemmas
 pub mod FractionLaws
+pub mod LeastModels
 pub mod ModelLaws
 pub mod ModelLemmas
 pub mod ModelsMade
