@@ -43,7 +43,7 @@ pub record IsReading (text : List ℕ) (lines : LineReader) (t : Tables) : Type 
 
 -- Before any line.
 
-empty_holds : (t : Tables) → AreEmpty t → Holds [] t
+pub empty_holds : (t : Tables) → AreEmpty t → Holds [] t
 empty_holds t e = record {
   headers = record {
     section = e.section;

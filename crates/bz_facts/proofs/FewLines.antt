@@ -1,18 +1,19 @@
 -- A text has not many more lines than bytes, and its lines not more names than lines.
-use Rattle.std.proofs.Common.{ℕ, suc, ◌≡◌, ◌≤◌, ◌+◌, arith, ap, refl, Bool, true, false, ◌==◌, List, [], ◌∷◌, ◌++◌, length, map, filter, fold, cond, if◌then◌else◌}
+use Rattle.std.proofs.Common.{ℕ, suc, ◌≡◌, ◌≤◌, ◌+◌, arith, ap, refl, Bool, true, false, ◌==◌, List, [], ◌∷◌, ◌++◌, length, map, filter, fold, cond, Option, Some, None, if◌then◌else◌}
 use Rattle.std.specs.List.{enumerate_from, slice_split}
 use Rattle.std.specs.Str.Lines.{lines, lines_of_parts}
 use Rattle.std.proofs.lemmas.List.{length-append}
 use Rattle.std.proofs.lemmas.List.Sums.{count_by-le-length}
 use Rattle.std.proofs.lemmas.List.Splits.{length-slice_split}
-use Rattle.bz_lines.specs.FieldLists.{field}
+use Rattle.bz_lines.specs.FieldLists.{Fields, field}
 use Rattle.bz_lines.specs.LinesBefore.{gathered}
 use Rattle.bz_lines.specs.NameLists.{is_among, with_name}
 use Rattle.bz_lines.specs.NumberedLines.{is_kept, numbered_after, numbered_line, numbered_lines}
-use Rattle.bz_facts.specs.declared.records.Heading.TheVariants.{Columns, Rows}
+use Rattle.bz_facts.specs.declared.records.BoundType.{BoundType}
+use Rattle.bz_facts.specs.declared.records.Heading.TheVariants.{Bounds, Columns, Rows}
 use Rattle.bz_facts.specs.Headings.{Lines, on_line_in}
-use Rattle.bz_facts.specs.LineFacts.{columns, columns_named, row_names}
-use Rattle.bz_facts.specs.Words.{is_marker}
+use Rattle.bz_facts.specs.LineFacts.{bound_on, bound_set, bound_sets, bounds, columns, columns_named, is_own, row_names}
+use Rattle.bz_facts.specs.Words.{bound_type, is_marker}
 use Rattle.bz_facts.proofs.TableLemmas.{filter-shorter}
 
 gathered_few : {L F : Type 0} (f : List L → L → List F) → ((seen : List L) (l : L) → length (f seen l) ≤ 1) → (seen ls : List L) → length (gathered f seen ls) ≤ length ls
@@ -49,6 +50,15 @@ folded_few names (name ∷ more) = omega (arith, folded_few (with_name names nam
 
 pub few-columns : (ls : Lines) → length (columns ls) ≤ length ls
 few-columns ls = omega (arith, folded_few [] (columns_named ls), named_few ls)
+
+-- a bound line says one thing at most
+pub few-bound : (names sets : List (List ℕ)) (line : ℕ) (o : Option BoundType) (fs : Fields) → length (bound_on names sets line o fs) ≤ 1
+few-bound names sets line None fs = omega arith
+few-bound names sets line (Some t) fs = one_or_none (is_own sets (bound_set (Some t) fs)) (_ ∷ []) (omega arith)
+
+pub few-bounds : (ls : Lines) → length (bounds ls) ≤ length ls
+few-bounds ls = gathered_few (on_line_in Bounds (λ seen l. bound_on (columns seen) (bound_sets seen) l.number (bound_type (field 0 l.fields)) l.fields))
+    (λ seen l. one_or_none _ (bound_on (columns seen) (bound_sets seen) l.number (bound_type (field 0 l.fields)) l.fields) (few-bound (columns seen) (bound_sets seen) l.number (bound_type (field 0 l.fields)) l.fields)) [] ls
 
 parts_few : (parts : List (List ℕ)) → length (lines_of_parts parts) ≤ length parts
 parts_few [] = omega arith

@@ -2,6 +2,7 @@ mod Worked
 pub mod BetweenLines
 pub mod FactLaws
 pub mod FactLemmas
+pub mod FactsOfTexts
 pub mod FailingTests
 pub mod FewLines
 pub mod Held

@@ -1,6 +1,8 @@
 -- What holds of the tables behind lines none of which fails.
-use Rattle.std.proofs.Common.{ℕ, ◌+◌, ◌<◌, ◌≤◌, ◌≡◌, refl, sym, ap, ◌∙◌, subst, arith, Bool, true, false, ◌&&◌, not, nat_le, nat_lt, bytes_eq, List, [], ◌∷◌, ◌++◌, drop, filter, length, map, flat_map, Option, Some, None, cond, option_to_list, append-nil}
+use Rattle.std.proofs.Common.{ℕ, ℤ, pos, ◌+◌, ◌<◌, ◌≤◌, ◌≡◌, ◌⊎◌, inl, inr, refl, sym, ap, ◌∙◌, subst, arith, Bool, true, false, ◌&&◌, not, nat_le, nat_lt, bytes_eq, List, [], ◌∷◌, ◌++◌, drop, filter, length, map, flat_map, Option, Some, None, cond, option_to_list, append-nil}
 use Rattle.std.specs.Prelude.{is_none}
+use Rattle.std.specs.Int.{◌∣◌}
+use Rattle.std.specs.Int.RustNames.{unsigned_abs}
 use Rattle.std.specs.List.{AllByRecursion, IsDistinct}
 use Rattle.std.specs.Option.{ForSome}
 use Rattle.std.proofs.lemmas.Bool.{leb-false, ltb-false}
@@ -13,7 +15,7 @@ use Rattle.bz_lines.specs.NameLists.{is_among, place, with_name}
 use Rattle.bz_lines.proofs.FirstFaults.{first_failing-none, none_fails}
 use Rattle.bz_facts.specs.declared.faults.MpsKind.TheVariants.{DoubleEntry, Limit, Number}
 use Rattle.bz_num.specs.declared.decimal.Dec.{Dec}
-use Rattle.bz_num.specs.Decimals.{IsWithinLimits}
+use Rattle.bz_num.specs.Decimals.{IsReduced, IsWithinLimits, exponent, mantissa}
 use Rattle.bz_facts.specs.declared.records.BoundLine.{BoundLine}
 use Rattle.bz_facts.specs.declared.records.BoundType.{BoundType}
 use Rattle.bz_facts.specs.declared.records.Entry.{Entry}
@@ -26,7 +28,7 @@ use Rattle.bz_facts.specs.declared.tables.Rows.{Rows as RowTable}
 use Rattle.bz_facts.specs.LineFacts.{behind_bound_set, behind_set, bound_number, bound_on, bound_set, entries_on, entry_of, given_of, given_on, is_own, names_bound_set, names_set, number_of, pairs, set_of}
 use Rattle.bz_facts.specs.LineSteps.{BoundAdded, EntriesAdded, GivenAdded, MarkerAdded, RowAdded, as_sets, bound_tests_by, entry_tests_by, given_tests_by}
 use Rattle.bz_facts.specs.LineTests.{bound_tests_of, is_wrong_side, number_tests, is_counted, is_row_past_limit, is_past_limit, is_same_entry, is_same_row, own_bound_tests, own_given_tests, pair_tests, repeats, row_tests}
-use Rattle.bz_facts.specs.SoundFacts.{IsBoundAmong, IsEntryAmong, IsFinite, IsGivenAmong, NeverFallFrom}
+use Rattle.bz_facts.specs.SoundFacts.{IsBoundAmong, IsEntryAmong, IsFinite, IsGivenAmong, IsReadDecimal, NeverFallFrom}
 use Rattle.bz_facts.specs.Spellings.{IsSpelled, Spelled, is_infinite, is_no_number, is_too_wide, no_number, number, spelled, too_wide, value}
 use Rattle.bz_facts.specs.TableNotes.{is_noted}
 use Rattle.bz_facts.specs.Words.{bound_type, has_number, is_marker, row_type}
@@ -36,22 +38,27 @@ use Rattle.bz_facts.proofs.SpellingLaws.{spelled_is_exact}
 
 -- Pairs and numbers that pass their tests.
 
-by_spelled : (word : List ℕ) (s : Spelled) → IsSpelled word s → is_no_number s ≡ false → is_too_wide s ≡ false → IsWithinLimits (value s)
-by_spelled word (number d) h a b = h.1
+-- the value of a spelling has no zero at its end
+ends_once : (n e : ℤ) (d : Dec) → IsReduced n e d → (d.exp ≡ pos 0) ⊎ (10 ∣ unsigned_abs d.mant → ⊥)
+ends_once n e d (inl z) = inl z.exp
+ends_once n e d (inr m) = inr m.last
+
+by_spelled : (word : List ℕ) (s : Spelled) → IsSpelled word s → is_no_number s ≡ false → is_too_wide s ≡ false → IsReadDecimal (value s)
+by_spelled word (number d) h a b = record { within = h.1; ends = ends_once (mantissa h.0.spelling) (exponent h.0.spelling) d h.0.value }
 by_spelled word too_wide h a b = absurd cc
 by_spelled word no_number h a b = absurd cc
 
-number_within : (word : List ℕ) → IsShort word → is_no_number (spelled word) ≡ false → is_too_wide (spelled word) ≡ false → IsWithinLimits (number_of word)
-number_within word l a b = by_spelled word (spelled word) (spelled_is_exact word l) a b
+number_read : (word : List ℕ) → IsShort word → is_no_number (spelled word) ≡ false → is_too_wide (spelled word) ≡ false → IsReadDecimal (number_of word)
+number_read word l a b = by_spelled word (spelled word) (spelled_is_exact word l) a b
 
 pub record IsPair (rows : List (List ℕ)) (p : List ℕ × List ℕ) : Type 0 where
   pub there : is_among rows p.0 ≡ true
-  pub within : IsWithinLimits (number_of p.1)
+  pub read : IsReadDecimal (number_of p.1)
 
 pair_passes : (rows : List (List ℕ)) (p : List ℕ × List ℕ) → IsShort p.1 → first_failing (pair_tests rows p) ≡ None → IsPair rows p
 pair_passes rows p l e =
     let h = none_fails (pair_tests rows p) e in
-    record { there = not-none (is_among rows p.0) h.0; within = number_within p.1 l h.1.0 h.1.1.0 }
+    record { there = not-none (is_among rows p.0) h.0; read = number_read p.1 l h.1.0 h.1.1.0 }
 
 pairs_pass : (rows : List (List ℕ)) (fs : FieldList) → AllByRecursion IsShort fs → first_failing (flat_map (pair_tests rows) (pairs fs)) ≡ None → AllByRecursion (IsPair rows) (pairs fs)
 pairs_pass rows fs l e =
@@ -109,7 +116,7 @@ columns-more_rows rows more t l s = record {
   integers = s.integers;
   few_columns = s.few_columns;
   few_entries = s.few_entries;
-  entries = all-weaker (IsEntryAmong (length t.names) rows) (IsEntryAmong (length t.names) more) (λ e h. record { column = h.column; row = omega (arith, h.row, l); within = h.within }) t.entries s.entries;
+  entries = all-weaker (IsEntryAmong (length t.names) rows) (IsEntryAmong (length t.names) more) (λ e h. record { column = h.column; row = omega (arith, h.row, l); read = h.read }) t.entries s.entries;
   in_order = s.in_order;
   current = s.current;
   once = s.once;
@@ -233,9 +240,9 @@ sound-entries rows fs old new m s p a =
     subst (AllByRecursion (λ e. e.column ≡ c)) (sym is) (all-map (IsPair rows) (λ e. e.column ≡ c) (entry_of rows c) (λ q h. refl) (pairs (drop 1 fs)) p.tested) in
     let added : AllByRecursion (IsEntryAmong (length new.names) (length rows)) more =
     subst (AllByRecursion (IsEntryAmong (length new.names) (length rows))) (sym is)
-    (all-map (IsPair rows) (IsEntryAmong (length new.names) (length rows)) (entry_of rows c) (λ q h. record { column = omega (arith, last); row = place-inside (bytes_eq q.0) rows h.there; within = h.within }) (pairs (drop 1 fs)) p.tested) in
+    (all-map (IsPair rows) (IsEntryAmong (length new.names) (length rows)) (entry_of rows c) (λ q h. record { column = omega (arith, last); row = place-inside (bytes_eq q.0) rows h.there; read = h.read }) (pairs (drop 1 fs)) p.tested) in
     let kept : AllByRecursion (IsEntryAmong (length new.names) (length rows)) old.entries =
-    all-weaker (IsEntryAmong (length old.names) (length rows)) (IsEntryAmong (length new.names) (length rows)) (λ e h. record { column = omega (arith, h.column, size, not_fewer among (length old.names)); row = h.row; within = h.within }) old.entries s.entries in
+    all-weaker (IsEntryAmong (length old.names) (length rows)) (IsEntryAmong (length new.names) (length rows)) (λ e h. record { column = omega (arith, h.column, size, not_fewer among (length old.names)); row = h.row; read = h.read }) old.entries s.entries in
     record {
       integers = ap length a.integers ∙ length-append old.integers.items (cond among [] (old.marked ∷ [])) ∙ omega (arith, one_each among old.marked (length old.integers.items) (length old.names) s.integers, size);
       few_columns = omega (arith, size, room among (length old.names) s.few_columns columns);
@@ -254,7 +261,7 @@ pub record SoundGivens (rows : ℕ) (gs : List Given) : Type 0 where
 
 pub givens-more_rows : (rows more : ℕ) (gs : List Given) → rows ≤ more → SoundGivens rows gs → SoundGivens more gs
 givens-more_rows rows more gs l s = record {
-  all = all-weaker (IsGivenAmong rows) (IsGivenAmong more) (λ g h. record { row = omega (arith, h.row, l); within = h.within }) gs s.all;
+  all = all-weaker (IsGivenAmong rows) (IsGivenAmong more) (λ g h. record { row = omega (arith, h.row, l); read = h.read }) gs s.all;
   once = s.once;
 }
 
@@ -268,7 +275,7 @@ given_pass rows before true fs l s e =
     let tested = pairs_pass rows fs l both.0 in
     record {
       all = all-append (IsGivenAmong (length rows)) before more s.all
-          (all-map (IsPair rows) (IsGivenAmong (length rows)) (given_of rows) (λ q h. record { row = place-inside (bytes_eq q.0) rows h.there; within = h.within }) (pairs fs) tested);
+          (all-map (IsPair rows) (IsGivenAmong (length rows)) (given_of rows) (λ q h. record { row = place-inside (bytes_eq q.0) rows h.there; read = h.read }) (pairs fs) tested);
       once = distinct-more is_same_row (λ a b. equal-turned a.row b.row) before more s.once apart.0;
     }
 
@@ -301,7 +308,7 @@ nothing_finite x e = absurd cc
 
 bound_finite : (names : List (List ℕ)) (t : BoundType) (b : Bool) (fs : FieldList) → AllByRecursion IsShort fs → NoneFails (cond b (number_tests (field 1 fs) ++ (is_wrong_side t (number_of (field 1 fs)), Number) ∷ []) []) → ForSome (cond b (cond (is_infinite (number_of (field 1 fs))) None (Some (number_of (field 1 fs)))) None) IsFinite
 bound_finite names t false fs l h = nothing_finite
-bound_finite names t true fs l h = finite_number (number_of (field 1 fs)) (is_infinite (number_of (field 1 fs))) refl (number_within (field 1 fs) (short-field 1 fs l) h.0 h.1.0)
+bound_finite names t true fs l h = finite_number (number_of (field 1 fs)) (is_infinite (number_of (field 1 fs))) refl (number_read (field 1 fs) (short-field 1 fs l) h.0 h.1.0).within
 
 bound_pass : (names sets : List (List ℕ)) (line : ℕ) (t : BoundType) (own : Bool) (fs : FieldList) → AllByRecursion IsShort fs → NoneFails (cond own (own_bound_tests names t fs) []) → AllByRecursion (IsBoundAmong (length names)) (cond own (record { line = line; kind = t; column = place names (field 0 fs); number = bound_number t (field 1 fs) } ∷ []) [])
 bound_pass names sets line t false fs l h = tt

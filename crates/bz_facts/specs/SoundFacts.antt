@@ -1,6 +1,7 @@
--- What holds of the facts of every text no line of which fails. The reader of facts gives it beside the facts, and the
--- maker of models builds on it alone.
-use Rattle.std.specs.Prelude.{ℕ, ◌<◌, ◌≤◌, ◌≡◌, true, false, filter, length, List, [], ◌∷◌}
+-- What holds of the facts of every text, which is a law, `facts_are_sound`. The maker of models builds on it alone.
+use Rattle.std.specs.Prelude.{ℕ, pos, ◌<◌, ◌≤◌, ◌≡◌, ◌⊎◌, true, false, filter, length, List, [], ◌∷◌}
+use Rattle.std.specs.Int.{◌∣◌}
+use Rattle.std.specs.Int.RustNames.{unsigned_abs}
 use Rattle.std.specs.List.{AllByRecursion, IsDistinct, list_any}
 use Rattle.std.specs.Option.{ForSome}
 use Rattle.bz_num.specs.declared.decimal.Dec.{Dec}
@@ -12,16 +13,21 @@ use Rattle.bz_facts.specs.declared.records.Given.{Given}
 use Rattle.bz_facts.specs.LineTests.{is_counted, is_free, is_same_entry, is_same_row}
 use Rattle.bz_facts.specs.Spellings.{is_infinite}
 
+-- a decimal of a text: within its limits, and with no zero at its end unless it is 0, with the exponent 0
+pub record IsReadDecimal (d : Dec) : Type 0 where
+  pub within : IsWithinLimits d
+  pub ends : (d.exp ≡ pos 0) ⊎ (10 ∣ unsigned_abs d.mant → ⊥)
+
 -- an entry of one of so many columns and one of so many rows
 pub record IsEntryAmong (columns rows : ℕ) (e : Entry) : Type 0 where
   pub column : e.column < columns
   pub row : e.row < rows
-  pub within : IsWithinLimits e.number
+  pub read : IsReadDecimal e.number
 
 -- a right side or a range of one of so many rows
 pub record IsGivenAmong (rows : ℕ) (g : Given) : Type 0 where
   pub row : g.row < rows
-  pub within : IsWithinLimits g.number
+  pub read : IsReadDecimal g.number
 
 -- a bound, which is finite
 pub record IsFinite (d : Dec) : Type 0 where

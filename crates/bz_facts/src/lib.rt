@@ -20,6 +20,6 @@ mod tests;
 mod words;
 
 pub use faults::{MpsFault, MpsKind, MpsStop};
-pub use laws::{fields_spell_one_number, text_has_facts_or_one_fault};
+pub use laws::{facts_are_sound, fields_spell_one_number, text_has_facts_or_one_fault};
 pub use reading::read_facts;
 pub use records::{BoundLine, BoundType, Entry, Facts, Given, Heading, RowType};

@@ -1,5 +1,5 @@
 //! Names, each once, in the order in which they first come.
-ghost use Rattle.std.specs.Prelude.{◌≡◌, true, false, [], IfOk, IfSome, IfNone, not, length};
+ghost use Rattle.std.specs.Prelude.{◌≡◌, true, false, [], IfErr, IfOk, IfSome, IfNone, not, length};
 ghost use Rattle.bz_lines.specs.FieldLists.{field};
 ghost use Rattle.bz_lines.specs.NameLists.{is_among, place, with_name};
 
@@ -54,6 +54,7 @@ impl<'a> Names<'a> {
         ensures place { IfOk result (λ r. r.place ≡ place self.old name.now) }
         ensures new { IfOk result (λ r. r.new ≡ not (is_among self.old name.now)) }
         ensures names { IfOk result (λ r. self.new ≡ with_name self.old name.now) }
+        ensures kept { IfErr result (λ _. self.new ≡ self.old) }
     {
         let (place, new) = self.set.insert_full(name)?;
         Ok(Added { place, new })

@@ -78,7 +78,7 @@ whole_at_thirty : (m : ℤ) (n : ℕ) → (m *ℤ pos (10 ^ (n + 30))) *ℤ pos 
 whole_at_thirty m n =
     mul_one (m *ℤ pos (10 ^ (n + 30))) ∙ ap (λ e. m *ℤ pos e) (pow-add 10 n 30) ∙ sym (*ℤ_assoc m (pos (10 ^ n)) (pos (10 ^ 30)))
 
-fraction_below : (d : Dec) (f : Frac) (n : ℕ) → n < 30 → d.exp ≡ negsuc n → IsLowest d.mant (pos (10 ^ suc n)) f → IsFractionOf d f
+pub fraction_below : (d : Dec) (f : Frac) (n : ℕ) → n < 30 → d.exp ≡ negsuc n → IsLowest d.mant (pos (10 ^ suc n)) f → IsFractionOf d f
 fraction_below d f n h e l = record {
   value = same_value f.num f.den d.mant (pos (10 ^ suc n)) (at_thirty d) (pos (10 ^ 30)) some l.value (ap (λ (z : ℤ). (d.mant *ℤ pos (10 ^ unsigned_abs (z +ℤ pos 30))) *ℤ pos (10 ^ suc n)) e ∙ point_at_thirty d.mant n h);
   lowest = l.lowest;
@@ -87,13 +87,13 @@ fraction_below d f n h e l = record {
     some : pos (10 ^ suc n) ≢ pos 0
     some = let large : 1 ≤ 10 ^ suc n = power_some (suc n) in positive-ne (pos (10 ^ suc n)) (omega (arith, ints))
 
-fraction_above : (d : Dec) (f : Frac) (n : ℕ) → d.exp ≡ pos n → IsLowest (d.mant *ℤ pos (10 ^ n)) (pos 1) f → IsFractionOf d f
+pub fraction_above : (d : Dec) (f : Frac) (n : ℕ) → d.exp ≡ pos n → IsLowest (d.mant *ℤ pos (10 ^ n)) (pos 1) f → IsFractionOf d f
 fraction_above d f n e l = record {
   value = same_value f.num f.den (d.mant *ℤ pos (10 ^ n)) (pos 1) (at_thirty d) (pos (10 ^ 30)) (positive-ne (pos 1) (omega (arith, ints))) l.value (ap (λ (z : ℤ). (d.mant *ℤ pos (10 ^ unsigned_abs (z +ℤ pos 30))) *ℤ pos 1) e ∙ whole_at_thirty d.mant n);
   lowest = l.lowest;
 }
 
-finite_above : (d : Dec) (n : ℕ) → d.exp ≡ pos n → is_infinite d ≡ false → unsigned_abs (d.mant *ℤ pos (10 ^ n)) < 10 ^ 20
+pub finite_above : (d : Dec) (n : ℕ) → d.exp ≡ pos n → is_infinite d ≡ false → unsigned_abs (d.mant *ℤ pos (10 ^ n)) < 10 ^ 20
 finite_above d n e h =
     let less : unsigned_abs (at_thirty d) < 10 ^ 50 = less_of (unsigned_abs (at_thirty d)) h in
     let size : unsigned_abs (at_thirty d) ≡ unsigned_abs (d.mant *ℤ pos (10 ^ n)) * 10 ^ 30 =

@@ -94,7 +94,7 @@ starting_finite = record { lower = some_finite zero_dec zero_is_finite; upper = 
 pub binary_finite : AreFinite (record { lower = Some zero_dec; upper = Some one_dec })
 binary_finite = record { lower = some_finite zero_dec zero_is_finite; upper = some_finite one_dec one_is_finite }
 
-bounded_finite : (k : BoundType) (n : Option Dec) (e : Ends) → ForSome n IsFinite → AreFinite e → AreFinite (bounded k n e)
+pub bounded_finite : (k : BoundType) (n : Option Dec) (e : Ends) → ForSome n IsFinite → AreFinite e → AreFinite (bounded k n e)
 bounded_finite Up n e h f = record { lower = f.lower; upper = h }
 bounded_finite Ui n e h f = record { lower = f.lower; upper = h }
 bounded_finite Lo n e h f = record { lower = h; upper = f.upper }

@@ -3,8 +3,10 @@ pub mod ColumnSteps
 pub mod DigitLemmas
 pub mod EndLemmas
 pub mod FractionLaws
+pub mod LeastModels
 pub mod ModelLaws
 pub mod ModelLemmas
+pub mod ModelsMade
 pub mod NameLaws
 pub mod PlacedItems
 pub mod RowLemmas

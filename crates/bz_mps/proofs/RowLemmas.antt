@@ -1,5 +1,5 @@
 -- The rows and the objective of a model, one by one.
-use Rattle.std.proofs.Common.{ℕ, suc, ◌<◌, ◌≤◌, ◌+◌, ◌≡◌, refl, sym, ap, ◌∙◌, subst, arith, true≢false, is_some, lt-ltb, Bool, true, false, not, ◌||◌, cond, if◌then◌else◌, List, [], ◌∷◌, ◌++◌, map, filter, take, drop, get_or, eqb-true, eq-eqb, Option, Some, None}
+use Rattle.std.proofs.Common.{ℕ, suc, ◌<◌, ◌≤◌, ◌+◌, ◌≡◌, refl, inl, sym, ap, ◌∙◌, subst, arith, true≢false, is_some, lt-ltb, Bool, true, false, not, ◌||◌, cond, if◌then◌else◌, List, [], ◌∷◌, ◌++◌, map, filter, take, drop, get_or, eqb-true, eq-eqb, Option, Some, None}
 use Rattle.std.specs.Prelude.{length, find, slice_get, ◌==◌, ◌&&◌, Result, IfOk}
 use Rattle.std.specs.List.{AllByRecursion, AllZip, IsDistinct, enumerate_from, list_any, position, position_or_len}
 use Rattle.std.specs.Option.{option_map, option_to_list, unwrap_or}
@@ -20,7 +20,7 @@ use Rattle.bz_facts.specs.declared.Given.{Given}
 use Rattle.bz_facts.specs.declared.MpsKind.TheVariants.{TooWide}
 use Rattle.bz_facts.specs.declared.RowType.{RowType}
 use Rattle.bz_facts.specs.LineTests.{is_free, is_same_entry}
-use Rattle.bz_facts.specs.SoundFacts.{AreSound, IsEntryAmong, IsGivenAmong, NeverFallFrom}
+use Rattle.bz_facts.specs.SoundFacts.{AreSound, IsEntryAmong, IsGivenAmong, IsReadDecimal, NeverFallFrom}
 use Rattle.bz_facts.specs.Spellings.{zero_dec}
 use Rattle.bz_mps.specs.FactModel.{IsRowOf, IsRowWith, end_test_at_row, fault}
 use Rattle.bz_mps.specs.RowsMade.{AreRowFacts, IsObjectiveWith, RiseFrom, Unless}
@@ -99,37 +99,51 @@ rise_at low r (x ∷ xs) n d = by (x.row == r) refl (rise_above x xs n.1 (IsDist
 zero_within : IsWithinLimits zero_dec
 zero_within = record { mant = omega arith; exp = omega arith }
 
-found_within : (r count : ℕ) (gs : List Given) → AllByRecursion (IsGivenAmong count) gs → AllByRecursion IsWithinLimits (option_to_list (given_at r gs))
-found_within r count [] h = tt
-found_within r count (g ∷ gs) h = by (g.row == r) (found_within r count gs h.1)
+zero_read : IsReadDecimal zero_dec
+zero_read = record { within = zero_within; ends = inl refl }
+
+found_read : (r count : ℕ) (gs : List Given) → AllByRecursion (IsGivenAmong count) gs → AllByRecursion IsReadDecimal (option_to_list (given_at r gs))
+found_read r count [] h = tt
+found_read r count (g ∷ gs) h = by (g.row == r) (found_read r count gs h.1)
   where
-    by : (b : Bool) → AllByRecursion IsWithinLimits (option_to_list (given_at r gs)) → AllByRecursion IsWithinLimits (option_to_list (option_map (λ g. g.number) (cond b (Some g) (find (λ g. g.row == r) gs))))
-    by true rest = (h.0.within, tt)
+    by : (b : Bool) → AllByRecursion IsReadDecimal (option_to_list (given_at r gs)) → AllByRecursion IsReadDecimal (option_to_list (option_map (λ g. g.number) (cond b (Some g) (find (λ g. g.row == r) gs))))
+    by true rest = (h.0.read, tt)
     by false rest = rest
 
-or_zero_within : (o : Option Dec) → AllByRecursion IsWithinLimits (option_to_list o) → IsWithinLimits (unwrap_or o zero_dec)
-or_zero_within None h = zero_within
-or_zero_within (Some d) h = h.0
+or_zero_read : (o : Option Dec) → AllByRecursion IsReadDecimal (option_to_list o) → IsReadDecimal (unwrap_or o zero_dec)
+or_zero_read None h = zero_read
+or_zero_read (Some d) h = h.0
 
 -- what holds of each number of a row holds of its decimals
 pub all_decimals : (P : Dec → Type 0) (entries : List Entry) (rhs : Dec) (range : Option Dec) → AllByRecursion (λ e. P e.number) entries → P rhs → AllByRecursion P (option_to_list range) → AllByRecursion P (decimals_of entries rhs range)
 all_decimals P [] rhs range h k g = (k, g)
 all_decimals P (e ∷ es) rhs range h k g = (h.0, all_decimals P es rhs range h.1 k g)
 
+entries_read : (f : Facts) (r : ℕ) → AreSound f → AllByRecursion (λ e. IsReadDecimal e.number) (entries_at r f.entries)
+entries_read f r s =
+    all_kept (λ e. IsReadDecimal e.number) (λ e. e.row == r) f.entries (all_weaker (IsEntryAmong (length f.columns) (length f.row_names)) (λ e. IsReadDecimal e.number) (λ e h. h.read) f.entries s.entries)
+
+side_read : (f : Facts) (r : ℕ) → AreSound f → IsReadDecimal (right_side_at f r)
+side_read f r s = or_zero_read (given_at r f.right_sides) (found_read r (length f.row_names) f.right_sides s.right_sides)
+
+-- the numbers of a row, and those of the objective, are decimals of the text
+pub row_read : (f : Facts) (r : ℕ) → AreSound f → AllByRecursion IsReadDecimal (decimals_of (entries_at r f.entries) (right_side_at f r) (given_at r f.ranges))
+row_read f r s =
+    all_decimals IsReadDecimal (entries_at r f.entries) (right_side_at f r) (given_at r f.ranges) (entries_read f r s) (side_read f r s) (found_read r (length f.row_names) f.ranges s.ranges)
+
+pub objective_read : (f : Facts) (r : ℕ) → AreSound f → AllByRecursion IsReadDecimal (decimals_of (entries_at r f.entries) (right_side_at f r) None)
+objective_read f r s =
+    all_decimals IsReadDecimal (entries_at r f.entries) (right_side_at f r) None (entries_read f r s) (side_read f r s) tt
+
 pub row_facts_sound : (f : Facts) (r : ℕ) → AreSound f → AreRowFacts (entries_at r f.entries) (right_side_at f r) (given_at r f.ranges)
 row_facts_sound f r s = record {
-  within = all_decimals IsWithinLimits (entries_at r f.entries) (right_side_at f r) (given_at r f.ranges)
-      (all_kept (λ e. IsWithinLimits e.number) (λ e. e.row == r) f.entries (all_weaker (IsEntryAmong (length f.columns) (length f.row_names)) (λ e. IsWithinLimits e.number) (λ e h. h.within) f.entries s.entries))
-      (or_zero_within (given_at r f.right_sides) (found_within r (length f.row_names) f.right_sides s.right_sides))
-      (found_within r (length f.row_names) f.ranges s.ranges);
+  within = all_weaker IsReadDecimal IsWithinLimits (λ d h. h.within) (decimals_of (entries_at r f.entries) (right_side_at f r) (given_at r f.ranges)) (row_read f r s);
   rising = rise_at 0 r f.entries s.in_order s.entries_once;
 }
 
 pub objective_facts_sound : (f : Facts) (r : ℕ) → AreSound f → AreRowFacts (entries_at r f.entries) (right_side_at f r) None
 objective_facts_sound f r s = record {
-  within = all_decimals IsWithinLimits (entries_at r f.entries) (right_side_at f r) None
-      (all_kept (λ e. IsWithinLimits e.number) (λ e. e.row == r) f.entries (all_weaker (IsEntryAmong (length f.columns) (length f.row_names)) (λ e. IsWithinLimits e.number) (λ e h. h.within) f.entries s.entries))
-      (or_zero_within (given_at r f.right_sides) (found_within r (length f.row_names) f.right_sides s.right_sides)) tt;
+  within = all_weaker IsReadDecimal IsWithinLimits (λ d h. h.within) (decimals_of (entries_at r f.entries) (right_side_at f r) None) (objective_read f r s);
   rising = rise_at 0 r f.entries s.in_order s.entries_once;
 }
 

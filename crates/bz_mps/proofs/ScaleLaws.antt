@@ -17,8 +17,9 @@ use Rattle.bz_facts.specs.declared.Entry.{Entry}
 use Rattle.bz_facts.specs.declared.RowType.{RowType}
 use Rattle.bz_facts.specs.declared.RowType.TheVariants.{Free, AtMost, AtLeast, Equal}
 use Rattle.bz_facts.specs.LineTests.{is_free}
+use Rattle.bz_facts.specs.SoundFacts.{IsReadDecimal}
 use Rattle.bz_facts.specs.Spellings.{at_thirty}
-use Rattle.bz_mps.specs.LeastScale.{AreReadDecimals, AreWholeAt, IsLeastScale, IsReadDecimal, IsWholeAt}
+use Rattle.bz_mps.specs.LeastScale.{AreReadDecimals, AreWholeAt, IsLeastScale, IsWholeAt}
 use Rattle.bz_mps.specs.ScaledRows.{decimals_of, digits_behind_point, lower_side, most_digits, scaled, upper_side}
 use Rattle.bz_mps.proofs.BoundNumbers.{power_some}
 use Rattle.bz_mps.proofs.DigitLemmas.{each_below, most_from}

@@ -1,4 +1,4 @@
--- A text has a model or a fault, not both, and one fault alone.
+-- A text doesn't have both a model and a fault, and has one fault alone.
 use Rattle.std.proofs.Common.{ℕ, ◌≡◌, inl, inr, ap, sym, ◌∙◌, subst, Some, List}
 use Rattle.bz_lines.specs.FirstFault.{NoneFails}
 use Rattle.bz_lines.proofs.FirstFaults.{first_failing-none, first_failing-some}

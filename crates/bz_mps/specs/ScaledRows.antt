@@ -18,7 +18,7 @@ abbrev pub digits_behind_point : Dec → ℕ
 digits_behind_point d = if int_lt d.exp (pos 0) then unsigned_abs d.exp else 0
 
 -- The greatest number of digits that one of the decimals has behind its point. Ten to this power is the least power of
--- ten that makes them all whole, which is a law, `scale_is_least`: no decimal of a text has a zero at its end.
+-- ten that makes them all whole, which is a law, `model_scales_are_least`: no decimal of a text has a zero at its end.
 abbrev pub most_digits : List Dec → ℕ
 most_digits ds = fold (λ k d. max k (digits_behind_point d)) 0 ds
 
