@@ -7,7 +7,6 @@ use Rattle.bz_model.specs.declared.Model.{Model}
 use Rattle.bz_model.specs.declared.Parts.{Parts}
 use Rattle.bz_model.specs.Parting.{integers_of}
 use Rattle.bz_model.specs.Points.{objective, IsInfeasible, IsOptimal, IsUnbounded}
-use Rattle.bz_model.specs.Splits.{Decomposition, IsSplit}
 use Rattle.bz_cut.specs.Tests.{AllHold, IsFirstFault, each_of, test}
 use Rattle.bz_cut.proofs.TestLemmas.{all_behind, all_front, all_joined, none_where_all, one_fault}
 use Rattle.bz_tree.specs.declared.Leaf.{Leaf}
@@ -233,10 +232,6 @@ tests_tell m part root tree c d r t = (
   λ h. let both = told_as m part root tree c r c.verdict c.parts t h in (record { as_its_verdict = both.0 }, record { as_its_verdict = both.1 }),
   λ g. tested_as m part root tree c r d c.verdict c.parts t g.0.as_its_verdict g.1.as_its_verdict,
 )
-
--- a split's model may be solved by its partition
-pub split_decomposed : (d : Decomposition) → IsSplit d → IsDecomposed d.model d.part
-split_decomposed d s = record { columns = s.indexes; partition = s.partition; strict = s.strict }
 
 -- ---- the fault
 -- the tests are the same over each box and tree of the certificate

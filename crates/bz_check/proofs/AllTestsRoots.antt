@@ -18,6 +18,7 @@ use Rattle.bz_pass.specs.Laws.{IsDecomposed}
 use Rattle.bz_pass.proofs.MasterIntegers.{IsBoundedInMaster, integers_bounded}
 use Rattle.bz_pass.proofs.Numbered.{all_numbered, each_number}
 use Rattle.bz_check.specs.CheckTests.{integer_at}
+use Rattle.bz_check.proofs.Reducing.{all_at}
 
 -- ---- the box
 ceiling_least : (f : Frac) (a b : ℤ) → IsCeiling f a → IsCeiling f b → a ≤ℤ b
@@ -103,11 +104,6 @@ rises_before n [] i k d h l b = absurd (omega arith)
 rises_before n (e ∷ es) i zero d h l b = absurd (omega arith)
 rises_before n (e ∷ es) zero (suc k) d h l b = omega (arith, rises_at (suc e.0) es k d h.1 (omega arith))
 rises_before n (e ∷ es) (suc i) (suc k) d h l b = rises_before (suc e.0) es i k d h.1 (omega arith) (omega arith)
-
-all_at : {X : Type 0} (P : X → Type 0) (xs : List X) (i : ℕ) (d : X) → AllByRecursion P xs → i < length xs → P (get_or xs i d)
-all_at P [] i d h l = absurd (omega arith)
-all_at P (x ∷ xs) zero d h l = h.0
-all_at P (x ∷ xs) (suc i) d h l = all_at P xs i d h.1 (omega arith)
 
 some_within : {X : Type 0} (xs : List X) (k : ℕ) (x : X) → slice_get xs k ≡ Some x → k < length xs
 some_within [] k x h = absurd cc

@@ -9,22 +9,15 @@ use Rattle.bz_num.proofs.Folds.{fold_from-step, fold_from-stop}
 use Rattle.bz_model.specs.Parting.{width_of, inner_cost, negated, terms_in}
 use Rattle.bz_model.specs.Points.{coordinate}
 use Rattle.bz_model.specs.Splits.{Decomposition, IsSplit}
-use Rattle.bz_model.proofs.PartSums.{negated_within}
 use Rattle.bz_model.proofs.Sparse.{sparse_negated, sparse_terms_in}
+use Rattle.bz_cut.proofs.Costs.{cost_within, negated_where}
 use Rattle.bz_pass.proofs.CutsHold.{IsDecomposed, cost_terms_within}
 use Rattle.bz_check.specs.Sums.{Begins, row_pairs}
 use Rattle.bz_check.proofs.LaterEntries.{later, later-all, later-end, later-none, later-some}
 
+-- a split's model may be solved by its partition
 pub decomposed : (d : Decomposition) → IsSplit d → IsDecomposed d.model d.part
 decomposed d s = record { columns = s.indexes; partition = s.partition; strict = s.strict }
-
-negated_where : (b : Bool) (P : List (ℕ × ℤ) → Type 0) (es : List (ℕ × ℤ)) → (P es → P (negated es)) → P es → P (cond b (negated es) es)
-negated_where true P es f h = f h
-negated_where false P es f h = h
-
-cost_within : (d : Decomposition) → IsSplit d → AllBelow (length d.part) (inner_cost d.model)
-cost_within d s = subst (λ (n : ℕ). AllBelow n (inner_cost d.model)) (sym s.partition.numbers)
-    (negated_where d.model.maximise (AllBelow (length d.model.columns)) d.model.cost (negated_within (length d.model.columns) d.model.cost) s.indexes.cost)
 
 -- the cost of a part is sparse, and speaks of the part's positions
 pub cost_sparse : (d : Decomposition) (b : ℕ) → IsSplit d → IsSparse d.model.cost → IsSparse (terms_in d.part b (inner_cost d.model))

@@ -3,11 +3,6 @@ use Rattle.std.proofs.Common.{◌≡◌, subst, ℕ, suc, ◌+◌, ◌∷◌, �
 use Rattle.bz_cut.specs.Tests.{AllHold, IsFirstFault, Judges, Test, each_below}
 use Rattle.bz_cut.proofs.TestLemmas.{all_joined, fault_behind, fault_in_front, judges_then}
 
-pub below_next : {F : Type 0} (k : ℕ) (tests : ℕ → List (Test F)) → AllHold (each_below k tests) → AllHold (tests k) → AllHold (each_below (k + 1) tests)
-below_next k tests h g =
-    let e : suc k ≡ k + 1 = omega arith in
-    subst (λ (j : ℕ). AllHold (each_below j tests)) e (all_joined (each_below k tests) (tests k) h g)
-
 -- ---- one test and four lists of tests behind it
 pub fault_second : {F : Type 0} (t : Test F) (xs ys zs ws : List (Test F)) (f : F) → t.holds → IsFirstFault xs f → IsFirstFault (t ∷ xs ++ ys ++ zs ++ ws) f
 fault_second t xs ys zs ws f h g = inr (h, fault_in_front (xs ++ ys ++ zs) ws f (fault_in_front (xs ++ ys) zs f (fault_in_front xs ys f g)))

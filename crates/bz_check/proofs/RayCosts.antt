@@ -15,12 +15,6 @@ use Rattle.bz_model.specs.Strict.{HasItsColumns}
 use Rattle.bz_model.proofs.Sparse.{left_at}
 use Rattle.bz_check.specs.Sums.{row_pairs}
 
--- the numbers of a sparse row are narrow
-pub entry_narrow : (low : ℕ) (es : List (ℕ × ℤ)) (i : ℕ) (d : ℕ × ℤ) → IsSparseFrom low es → i < length es → IsNarrow (get_or es i d).1
-entry_narrow low [] i d h l = absurd (omega arith)
-entry_narrow low (e ∷ es) zero d h l = h.0.narrow
-entry_narrow low (e ∷ es) (suc i) d h l = entry_narrow (suc e.0) es i d h.1 (omega arith)
-
 -- the entries, the other way round where b says so
 abbrev pub turned : Bool → List (ℕ × ℤ) → List (ℕ × ℤ)
 turned b es = cond b (negated es) es

@@ -5,7 +5,7 @@ use Rattle.std.specs.Result.{IsErrAnd}
 use Rattle.std.proofs.Common.{refl, sym, ◌∙◌, ap, subst, get_or, arith}
 use Rattle.bz_model.proofs.Sparse.{left_at, none_left}
 use Rattle.bz_cut.specs.Tests.{Test, AllHold, IsFirstFault, Judges, each_of, each_below}
-use Rattle.bz_cut.proofs.TestLemmas.{Reduces, fault_in_front, items_end, items_fault, items_next}
+use Rattle.bz_cut.proofs.TestLemmas.{Reduces, fault_in_front, items_end, items_fault, items_next, length-numbered, numbered_at}
 
 -- a fault that is passed on
 pub passed_on : {F T : Type 0} (whole : List (Test F)) (f : F) (result : Result T F) → IsErrAnd result (λ g. g ≡ f) → IsFirstFault whole f → Judges whole result
@@ -17,17 +17,6 @@ pub stopped : {F T : Type 0} (front rest : List (Test F)) (f : F) (result : Resu
 stopped front rest f result told h = passed_on (front ++ rest) f result told (fault_in_front front rest f h)
 
 -- ---- the tests of each item with its number
-pub length-numbered : {X : Type 0} (n : ℕ) (xs : List X) → length (enumerate_from n xs) ≡ length xs
-length-numbered n [] = refl
-length-numbered n (x ∷ xs) = ap suc (length-numbered (n + 1) xs)
-
-pub numbered_at : {X : Type 0} (n : ℕ) (xs : List X) (i k : ℕ) (d : X) → i < length xs → get_or (enumerate_from n xs) i (k, d) ≡ (n + i, get_or xs i d)
-numbered_at n [] i k d l = absurd (omega arith)
-numbered_at n (x ∷ xs) zero k d l = let e : n ≡ n + 0 = omega arith in ap (λ (j : ℕ). (j, x)) e
-numbered_at n (x ∷ xs) (suc i) k d l =
-    let e : n + 1 + i ≡ n + suc i = omega arith in
-    numbered_at (n + 1) xs i k d (omega arith) ∙ ap (λ (j : ℕ). (j, get_or xs i d)) e
-
 -- the item at a place has its number, and its tests are the next
 numbered_is : {F X : Type 0} (tests : ℕ × X → List (Test F)) (n : ℕ) (xs : List X) (i k : ℕ) (x : X) → i < length xs → k ≡ n + i → x ≡ get_or xs i x → tests (get_or (enumerate_from n xs) i (0, x)) ≡ tests (k, x)
 numbered_is tests n xs i k x l e s =
@@ -49,7 +38,7 @@ pub numbered_end : {F X : Type 0} (tests : ℕ × X → List (Test F)) (n : ℕ)
 numbered_end tests n xs i whole l r = items_end tests (enumerate_from n xs) i whole (rw (length-numbered n xs) l) r
 
 -- ---- facts of all items with their numbers
-all_at : {X : Type 0} (P : X → Type 0) (xs : List X) (i : ℕ) (d : X) → AllByRecursion P xs → i < length xs → P (get_or xs i d)
+pub all_at : {X : Type 0} (P : X → Type 0) (xs : List X) (i : ℕ) (d : X) → AllByRecursion P xs → i < length xs → P (get_or xs i d)
 all_at P [] i d h l = absurd (omega arith)
 all_at P (x ∷ xs) zero d h l = h.0
 all_at P (x ∷ xs) (suc i) d h l = all_at P xs i d h.1 (omega arith)

@@ -16,7 +16,8 @@ use Rattle.bz_check.specs.Checking.{IsDue, PassesTests, Settles}
 use Rattle.bz_check.specs.CheckTests.{HasTree, IsCheckFault, check_tests}
 use Rattle.bz_check.specs.Fits.{Fits}
 use Rattle.bz_check.specs.Passing.{Passes}
-use Rattle.bz_check.proofs.AllTests.{fault_fails, fault_is_one, split_decomposed, tests_tell}
+use Rattle.bz_check.proofs.AllTests.{fault_fails, fault_is_one, tests_tell}
+use Rattle.bz_check.proofs.CostSums.{decomposed}
 
 tree_of : (c : Certificate) (verdict : Verdict) → HasTreeOf verdict c.tree → (tree : Tree) × HasTree c verdict tree
 tree_of c Optimal h = (h.tree, h.is_tree)
@@ -34,7 +35,7 @@ settles d c root tree (Err f) s is_root is_tree (inr h) = inr (s, record { root 
 
 -- all tests hold exactly where the certificate passes and fits
 told : (d : Decomposition) (c : Certificate) → IsSplit d → PassesTests d.model d.part c → Passes d.model d.part c × Fits d.model d.part c
-told d c s h = (tests_tell d.model d.part h.root h.tree c (split_decomposed d s) h.is_root h.is_tree).0 h.hold
+told d c s h = (tests_tell d.model d.part h.root h.tree c (decomposed d s) h.is_root h.is_tree).0 h.hold
 
 pub passes_told : (d : Decomposition) (c : Certificate) (result : Result (Unit {0}) CheckFault) → Settles d c result → IfOk result (λ _. Passes d.model d.part c)
 passes_told d c (Ok x) h = (told d c h.0 h.1).0
@@ -56,9 +57,9 @@ fault_told d c (Err f) (inr h) = inr h.1
 pub holds_due : (d : Decomposition) (c : Certificate) (result : Result (Unit {0}) CheckFault) → Settles d c result → Passes d.model d.part c → Fits d.model d.part c → IsDue (Ok tt) result
 holds_due d c (Ok x) h p q = inl refl
 holds_due d c (Err f) (inl e) p q = inr (ap Err e)
-holds_due d c (Err f) (inr h) p q = absurd (fault_fails d.model d.part c f (split_decomposed d h.0) h.1 (p, q))
+holds_due d c (Err f) (inr h) p q = absurd (fault_fails d.model d.part c f (decomposed d h.0) h.1 (p, q))
 
 pub first_due : (d : Decomposition) (c : Certificate) (result : Result (Unit {0}) CheckFault) → Settles d c result → (f : CheckFault) → IsCheckFault d.model d.part c f → IsDue (Err f) result
-first_due d c (Ok x) h f k = absurd (fault_fails d.model d.part c f (split_decomposed d h.0) k (told d c h.0 h.1))
+first_due d c (Ok x) h f k = absurd (fault_fails d.model d.part c f (decomposed d h.0) k (told d c h.0 h.1))
 first_due d c (Err g) (inl e) f k = inr (ap Err e)
-first_due d c (Err g) (inr h) f k = inl (ap Err (fault_is_one d.model d.part c g f (split_decomposed d h.0) h.1 k))
+first_due d c (Err g) (inr h) f k = inl (ap Err (fault_is_one d.model d.part c g f (decomposed d h.0) h.1 k))

@@ -8,6 +8,7 @@ use Rattle.bz_tree.specs.declared.NodeBox.{NodeBox}
 use Rattle.bz_tree.specs.Boxes.{Box}
 use Rattle.bz_tree.specs.Ends.{IsNarrowBox, box_of}
 use Rattle.bz_tree.specs.Trees.{with_lower, with_upper}
+use Rattle.bz_tree.proofs.NarrowSides.{narrow_at, set_narrow}
 use Rattle.bz_check.specs.declared.open_splits.Frame.{Frame}
 use Rattle.bz_check.specs.declared.open_splits.Frame.TheVariants as side
 use Rattle.bz_check.specs.declared.open_splits.Walk.{Walk}
@@ -18,16 +19,6 @@ set_back : (xs : List ℤ) (k : ℕ) (v : ℤ) → set (set xs k v) k (coordinat
 set_back [] k v = refl
 set_back (x ∷ xs) zero v = refl
 set_back (x ∷ xs) (suc k) v = ap (λ (ys : List ℤ). x ∷ ys) (set_back xs k v)
-
-narrow_set : (xs : List ℤ) (k : ℕ) (v : ℤ) → AllByRecursion IsNarrow xs → IsNarrow v → AllByRecursion IsNarrow (set xs k v)
-narrow_set [] k v h n = tt
-narrow_set (x ∷ xs) zero v h n = (n, h.1)
-narrow_set (x ∷ xs) (suc k) v h n = (h.0, narrow_set xs k v h.1 n)
-
-narrow_at : (xs : List ℤ) (k : ℕ) → AllByRecursion IsNarrow xs → IsNarrow (coordinate xs k)
-narrow_at [] k h = omega arith
-narrow_at (x ∷ xs) zero h = h.0
-narrow_at (x ∷ xs) (suc k) h = narrow_at xs k h.1
 
 all_more : {X : Type 0} (P : X → Type 0) (xs : List X) (x : X) → AllByRecursion P xs → P x → AllByRecursion P (xs ++ x ∷ [])
 all_more P [] x h p = (p, tt)
@@ -80,7 +71,7 @@ walk_turns count place upper right old new h l n t =
     record {
       lowers = ap length low ∙ length-set old.lower.items place right ∙ h.lowers;
       uppers = ap length up ∙ length-set old.upper.items place upper ∙ h.uppers;
-      narrow = rw low (narrow_set old.lower.items place right h.narrow n);
+      narrow = rw low (set_narrow old.lower.items place right n h.narrow);
       splits = rw t.opened (all_more (IsOpenSplit count) old.frames.items (side.Second place (coordinate old.lower.items place)) h.splits (l, narrow_at old.lower.items place h.narrow));
     }
 
@@ -91,7 +82,7 @@ walk_returns count place lower old new h n t =
     record {
       lowers = ap length low ∙ length-set old.lower.items place lower ∙ h.lowers;
       uppers = ap length up ∙ h.uppers;
-      narrow = rw low (narrow_set old.lower.items place lower h.narrow n);
+      narrow = rw low (set_narrow old.lower.items place lower n h.narrow);
       splits = rw t.as_before h.splits;
     }
 

@@ -12,16 +12,8 @@ ghost use Rattle.bz_check.specs.IntegerTests.{IsWholeQuotient, between_tests};
 
 use crate::faults::CheckFault;
 use bz_model::{Master, Split};
+use bz_num::divide;
 use bz_tree::NodeBox;
-
-/// The quotient, rounded toward zero, and the rest.
-fn divide(num: i128, den: i128) -> (i128, i128)
-    requires { pos 0 <ℤ den }
-    ensures whole { ((result.0 *ℤ den) +ℤ result.1) ≡ num }
-    ensures rest { unsigned_abs result.1 < unsigned_abs den }
-{
-    (num / den, num % den)
-}
 
 /// The quotient, where it is whole.
 fn whole_quotient(num: i128, den: i128) -> Option<i128>

@@ -10,7 +10,7 @@ ghost use Rattle.bz_check.specs.Sums.{sign_of, stated_pairs};
 
 use crate::stated::Stated;
 use bz_model::Model;
-use bz_num::{WideSum, fold, gcd, narrow_product};
+use bz_num::{Frac, WideSum, fold, narrow_product};
 
 /// What a value is multiplied by: -1 where the model maximises, and else 1.
 fn sign(model: &Model) -> i128
@@ -27,10 +27,10 @@ fn lowest(num: i128, den: i128) -> Stated
     ensures same { (result.num *ℤ den) ≡ (num *ℤ result.den) }
     ensures reduced { IsReduced (stated_fraction result) }
 {
-    let divisor = gcd(num, den);
+    let fraction = Frac::reduced(num, den);
     Stated {
-        num: num / divisor,
-        den: den / divisor,
+        num: fraction.num,
+        den: fraction.den,
     }
 }
 

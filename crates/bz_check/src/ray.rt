@@ -14,9 +14,9 @@ ghost use Rattle.bz_check.specs.Sums.{row_pairs};
 
 use crate::faults::{CheckFault, RAY_SUMS, wide_in};
 use crate::numbers::sum_at;
-use bz_cut::judge_fold;
+use bz_cut::{inner_number, judge_fold};
 use bz_model::{Column, Model, Row, Split};
-use bz_num::{Folding, WideSum, narrow_negation};
+use bz_num::{Folding, WideSum};
 
 /// Tests that column `j` stays where it is, if it is an integer.
 fn judge_integer(j: usize, column: &Column, ray: &[i128]) -> Result<(), CheckFault>
@@ -105,18 +105,6 @@ fn judge_bounds(columns: &[Column], ray: &[i128]) -> Result<(), CheckFault>
         judge_bound(j, column, ray)?;
     }
     Ok(())
-}
-
-/// The number in the cost that is minimised.
-fn inner_number(maximise: bool, number: i128) -> i128
-    requires { IsNarrow number }
-    ensures { result ≡ (if maximise then neg_ℤ number else number) }
-{
-    if maximise {
-        narrow_negation(number)
-    } else {
-        number
-    }
 }
 
 /// The inner cost along the direction, or its first wide place.

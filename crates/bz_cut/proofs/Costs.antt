@@ -34,11 +34,18 @@ pub coef_negated : (es : List (ℕ × ℤ)) (j : ℕ) → coef (negated es) j �
 coef_negated [] j = refl
 coef_negated (e ∷ es) j = rw (coef_negated es j) (coef_negated-step (nat_eq e.0 j) e.1 (coef es j))
 
-negated_where : (b : Bool) (P : List (ℕ × ℤ) → Type 0) (es : List (ℕ × ℤ)) → (P es → P (negated es)) → P es → P (cond b (negated es) es)
+-- the number of a column in the cost, the other way round where b says so
+pub coef_turned : (b : Bool) (es : List (ℕ × ℤ)) (j : ℕ) → coef (cond b (negated es) es) j ≡ cond b (neg_ℤ (coef es j)) (coef es j)
+coef_turned true es j = coef_negated es j
+coef_turned false es j = refl
+
+-- what holds of entries, and then of the same with each number the other way round, holds of those that b says
+pub negated_where : (b : Bool) (P : List (ℕ × ℤ) → Type 0) (es : List (ℕ × ℤ)) → (P es → P (negated es)) → P es → P (cond b (negated es) es)
 negated_where true P es f h = f h
 negated_where false P es f h = h
 
-cost_within : (d : Decomposition) → IsSplit d → AllBelow (length d.part) (inner_cost d.model)
+-- the inner cost speaks of columns
+pub cost_within : (d : Decomposition) → IsSplit d → AllBelow (length d.part) (inner_cost d.model)
 cost_within d s = subst (λ (n : ℕ). AllBelow n (inner_cost d.model)) (sym s.partition.numbers)
     (negated_where d.model.maximise (AllBelow (length d.model.columns)) d.model.cost (negated_within (length d.model.columns) d.model.cost) s.indexes.cost)
 

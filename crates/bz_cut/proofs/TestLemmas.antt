@@ -106,8 +106,9 @@ judges_same answer P Q (Err f) there back (inr j) = absurd j.1
 pub fault_at : {F : Type 0} (k n : ℕ) (tests : ℕ → List (Test F)) (f : F) → k < n → AllHold (each_below k tests) → IsFirstFault (tests k) f → IsFirstFault (each_below n tests) f
 fault_at k n tests f l h g = fault_below (suc k) n tests f (omega arith) (fault_behind (each_below k tests) (tests k) f h g)
 
-pub all_at : {F : Type 0} (k : ℕ) (tests : ℕ → List (Test F)) → AllHold (each_below k tests) → AllHold (tests k) → AllHold (each_below (k + 1) tests)
-all_at k tests h g = let e : suc k ≡ k + 1 = omega arith in subst (λ (j : ℕ). AllHold (each_below j tests)) e (all_joined (each_below k tests) (tests k) h g)
+-- after tests that hold the tests of the next number
+pub below_next : {F : Type 0} (k : ℕ) (tests : ℕ → List (Test F)) → AllHold (each_below k tests) → AllHold (tests k) → AllHold (each_below (k + 1) tests)
+below_next k tests h g = let e : suc k ≡ k + 1 = omega arith in subst (λ (j : ℕ). AllHold (each_below j tests)) e (all_joined (each_below k tests) (tests k) h g)
 
 -- what a `?` hands on
 pub judges_handed : {F T : Type 0} (xs : List (Test F)) (r : Result T F) (f : F) → r ≡ Err f → IsFirstFault xs f → Judges xs r
@@ -153,11 +154,11 @@ pub items_end : {F X : Type 0} (tests : X → List (Test F)) (xs : List X) (i : 
 items_end tests xs i all l r = r.hold (rw (each_of_none tests xs i l) tt)
 
 -- the same of items with their numbers, from n on
-length-numbered : {X : Type 0} (n : ℕ) (xs : List X) → length (enumerate_from n xs) ≡ length xs
+pub length-numbered : {X : Type 0} (n : ℕ) (xs : List X) → length (enumerate_from n xs) ≡ length xs
 length-numbered n [] = refl
 length-numbered n (x ∷ xs) = ap suc (length-numbered (n + 1) xs)
 
-numbered_at : {X : Type 0} (n : ℕ) (xs : List X) (i k : ℕ) (d : X) → i < length xs → get_or (enumerate_from n xs) i (k, d) ≡ (n + i, get_or xs i d)
+pub numbered_at : {X : Type 0} (n : ℕ) (xs : List X) (i k : ℕ) (d : X) → i < length xs → get_or (enumerate_from n xs) i (k, d) ≡ (n + i, get_or xs i d)
 numbered_at n [] i k d l = absurd (omega arith)
 numbered_at n (x ∷ xs) zero k d l = let e : n ≡ n + 0 = omega arith in ap (λ (j : ℕ). (j, x)) e
 numbered_at n (x ∷ xs) (suc i) k d l =

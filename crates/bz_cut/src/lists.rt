@@ -1,5 +1,6 @@
 //! Lists of multipliers and of positions, widths of parts, and the inner cost.
-ghost use Rattle.std.specs.Prelude.{◌≡◌, ◌↔◌, ◌<◌, ◌≤◌, pos, ◌<ℤ◌, IsTrue, length};
+ghost use Rattle.std.specs.Prelude.{◌≡◌, ◌↔◌, ◌<◌, ◌≤◌, pos, ◌<ℤ◌, IsTrue, length, if◌then◌else◌};
+ghost use Rattle.std.proofs.Math.IntN.{neg_ℤ};
 ghost use Rattle.bz_algebra.specs.Numbers.{IsNarrow};
 ghost use Rattle.bz_algebra.specs.Sums.{AllBelow, coef};
 ghost use Rattle.bz_num.specs.Row.{IsSparse};
@@ -48,18 +49,26 @@ pub fn width(split: &Split, part: u32) -> u32
     split.columns_of(part).len() as u32
 }
 
+/// A number of the cost in the cost that is minimised. It takes no memory.
+pub fn inner_number(maximise: bool, number: i128) -> i128
+    requires { IsNarrow number }
+    ensures value { result ≡ (if maximise then neg_ℤ number else number) }
+    ensures narrow { IsNarrow result }
+{
+    if maximise {
+        narrow_negation(number)
+    } else {
+        number
+    }
+}
+
 /// The number of a column in the cost that is minimised.
 fn column_cost(model: &Model, column: u32) -> i128
     requires { IsSparse model.now.cost }
     ensures value { result ≡ coef (inner_cost model.now) column }
     ensures narrow { IsNarrow result }
 {
-    let number = model.cost.at(column);
-    if model.maximise {
-        narrow_negation(number)
-    } else {
-        number
-    }
+    inner_number(model.maximise, model.cost.at(column))
 }
 
 /// The number at a position of a part in the cost that is minimised. It takes no memory.

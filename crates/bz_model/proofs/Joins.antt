@@ -36,7 +36,7 @@ module _ {X : Type 0} where
   join_known {n} {f} {g} h o j e = record { count = j.count ∙ o.count; each = λ b l. j.each b (rw o.count l) ∙ ap (λ (ys : List X). ys ++ g b) (o.each b l) ∙ e b l }
 
 -- ---- one more row or column
-take_next : {X : Type 0} (xs : List X) (i : ℕ) (x : X) → i < length xs → x ≡ get_or xs i x → take (i + 1) xs ≡ take i xs ++ x ∷ []
+pub take_next : {X : Type 0} (xs : List X) (i : ℕ) (x : X) → i < length xs → x ≡ get_or xs i x → take (i + 1) xs ≡ take i xs ++ x ∷ []
 take_next xs i x l e = ap (λ (k : ℕ). take k xs) (add-one i) ∙ take-suc xs i x l ∙ ap (λ (z : _). take i xs ++ z ∷ []) (sym e)
 
 numbered_suc : {X : Type 0} (n : ℕ) (xs : List X) (i : ℕ) (x : X) → i < length xs → x ≡ get_or xs i x → enumerate_from n (take (suc i) xs) ≡ enumerate_from n (take i xs) ++ (n + i, x) ∷ []

@@ -82,11 +82,6 @@ below_at n [] i d h l = absurd (omega arith)
 below_at n (e ∷ es) zero d h l = h.0
 below_at n (e ∷ es) (suc i) d h l = below_at n es i d h.1 (omega arith)
 
-pub narrow_at : (low : ℕ) (es : List (ℕ × ℤ)) (i : ℕ) (d : ℕ × ℤ) → IsSparseFrom low es → i < length es → IsNarrow ((get_or es i d).1)
-narrow_at low [] i d h l = absurd (omega arith)
-narrow_at low (e ∷ es) zero d h l = h.0.narrow
-narrow_at low (e ∷ es) (suc i) d h l = narrow_at (suc e.0) es i d h.1 (omega arith)
-
 -- ---- steps of loops over the terms
 pub left_at : {X : Type 0} (es : List X) (i : ℕ) (d : X) → i < length es → drop i es ≡ get_or es i d ∷ drop (i + 1) es
 left_at es i d l = rw add-one (drop-cons es i d l)

@@ -13,7 +13,9 @@ mod splitting;
 
 pub use laws::feasible_is_meeting_all_parts;
 pub use parts::{BlockPart, Master, Parts};
+pub use places::greatest;
 pub use records::{Column, Ineq, Model, Row};
+pub use sides::home;
 pub use splitting::{Split, Unsplit0};
 
 #[cfg(test)]

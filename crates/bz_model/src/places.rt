@@ -13,7 +13,7 @@ pub struct Places {
     pub positions: Vec<u32>,
 }
 
-/// The number of blocks: the greatest number of the partition.
+/// The number of blocks: the greatest number of the partition. It takes no memory.
 pub fn greatest(part: &[u32]) -> u32
     ensures { result ≡ blocks_of part.now }
 {

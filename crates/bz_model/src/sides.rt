@@ -12,7 +12,8 @@ use crate::records::{Column, Ineq, Row};
 use bz_num::{Frac, SparseRow, narrow_negation};
 use std::alloc::{AllocError, Global};
 
-/// The part that a row of these terms belongs to.
+/// The part that a row of these terms belongs to: the block of its first column in a block, or the master where it has
+/// none. It takes no memory.
 pub fn home(part: &[u32], terms: &SparseRow) -> u32
     requires { AllBelow (length part.now) terms.now }
     ensures { result ≡ home_of part.now terms.now }

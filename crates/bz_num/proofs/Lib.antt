@@ -7,5 +7,6 @@ pub mod DecimalReadings
 pub mod DecimalValues
 pub mod Divisors
 pub mod Folds
+pub mod Lowest
 pub mod Reduces
 pub mod Rows

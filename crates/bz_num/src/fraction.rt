@@ -2,6 +2,9 @@
 ghost use Rattle.std.specs.Prelude.{pos, ◌<ℤ◌};
 ghost use Rattle.bz_algebra.specs.Numbers.{IsNarrow};
 
+use crate::division::exact_quotient;
+use crate::divisor::gcd;
+
 /// The number num / den, with den at least 1. It need not be in lowest terms.
 #[derive(Clone, Copy, Debug)]
 pub struct Frac {
@@ -12,4 +15,22 @@ pub struct Frac {
     pub ghost positive: { pos 0 <ℤ den },
     pub ghost narrow_num: { IsNarrow num },
     pub ghost narrow_den: { IsNarrow den },
+}
+
+impl Frac {
+    ghost use Rattle.bz_num.specs.Lowest.{IsLowest};
+
+    /// The fraction num / den, in lowest terms. It takes no memory.
+    pub fn reduced(num: i128, den: i128) -> Frac
+        requires num { IsNarrow num }
+        requires den { IsNarrow den }
+        requires positive { pos 0 <ℤ den }
+        ensures { IsLowest num den result }
+    {
+        let divisor = gcd(num, den);
+        Frac {
+            num: exact_quotient(num, divisor),
+            den: exact_quotient(den, divisor),
+        }
+    }
 }

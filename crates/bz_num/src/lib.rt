@@ -4,6 +4,7 @@
 mod compare;
 mod decimal;
 mod digits;
+mod division;
 mod divisor;
 mod fraction;
 mod items;
@@ -15,6 +16,7 @@ mod row;
 
 pub use compare::{cmp_frac, cmp_quotients};
 pub use decimal::{Dec, NumFault, decimals_have_one_value, read_decimal};
+pub use division::divide;
 pub use divisor::gcd;
 pub use fraction::Frac;
 pub use items::{Items, Name};

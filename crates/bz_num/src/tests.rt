@@ -1,7 +1,7 @@
 //! Worked values.
 use crate::{
     Dec, Folding, Frac, Items, Name, NumFault, OutOfMemory, SparseRow, WideSum, cmp_frac,
-    cmp_quotients, fold, gcd, primitive, read_decimal,
+    cmp_quotients, divide, fold, gcd, primitive, read_decimal,
 };
 use std::cmp::Ordering;
 use std::test::Fail;
@@ -44,6 +44,23 @@ fn divisors(rt: HostRuntime) {
     assert_eq!(rt; gcd(0, -7), 7);
     assert_eq!(rt; gcd(-MOST, MOST), MOST);
     assert_eq!(rt; gcd(MOST, HALF), 1);
+}
+
+#[test]
+fn quotients_and_rests(rt: HostRuntime) {
+    assert_eq!(rt; divide(7, 2), (3, 1));
+    assert_eq!(rt; divide(-7, 2), (-3, -1));
+    assert_eq!(rt; divide(-8, 2), (-4, 0));
+}
+
+#[test]
+fn fractions_in_lowest_terms(rt: HostRuntime) {
+    let half = Frac::reduced(-6, 12);
+    assert_eq!(rt; (half.num, half.den), (-1, 2));
+    let nothing = Frac::reduced(0, 5);
+    assert_eq!(rt; (nothing.num, nothing.den), (0, 1));
+    let most = Frac::reduced(MOST, HALF);
+    assert_eq!(rt; (most.num, most.den), (MOST, HALF));
 }
 
 #[test]

@@ -2,10 +2,11 @@
 use Rattle.std.proofs.Common.{◌≡◌, ◌∙◌, ◌∷◌, ◌++◌, [], ℕ, ◌+◌, ◌<◌, ◌||◌, Bool, true, false, if◌then◌else◌, List, length, map, take, get_or, ap, sym, refl}
 use Rattle.std.specs.Prelude.{bytes_eq}
 use Rattle.std.specs.List.{list_any}
-use Rattle.std.proofs.lemmas.List.{map-append, take_more}
+use Rattle.std.proofs.lemmas.List.{map-append}
 use Rattle.std.proofs.lemmas.List.Folds.{list_any-append}
 use Rattle.std.specs.Cmp.Lexicographic.{same_text}
 use Rattle.bz_model.specs.declared.records.Column.{Column}
+use Rattle.bz_model.proofs.Joins.{take_next}
 use Rattle.bz_lines.specs.NameLists.{is_among, with_name}
 
 same_bytes : (x y : List ℕ) → bytes_eq x y ≡ true → x ≡ y
@@ -33,11 +34,8 @@ among_pushed names more name h q =
     among_by names name q (is_among names name) refl ∙ list_any-append (bytes_eq q) names (name ∷ [])
     ∙ ap (λ b. b || list_any (bytes_eq q) (name ∷ [])) (h q) ∙ sym (list_any-append (bytes_eq q) more (name ∷ []))
 
--- the items up to one more
-taken : {X : Type 0} (xs : List X) (i : ℕ) (x : X) → i < length xs → x ≡ get_or xs i x → take (i + 1) xs ≡ take i xs ++ x ∷ []
-taken xs i x h is = take_more xs i x h ∙ ap (λ y. take i xs ++ y ∷ []) (sym is)
-
+-- the names of the columns up to one more
 pub names_taken : (columns : List Column) (i : ℕ) (column : Column) → i < length columns → column ≡ get_or columns i column →
     map (λ c. c.name) (take i columns) ++ column.name ∷ [] ≡ map (λ c. c.name) (take (i + 1) columns)
 names_taken columns i column h is =
-    sym (ap (map (λ c. c.name)) (taken columns i column h is) ∙ map-append (λ c. c.name) (take i columns) (column ∷ []))
+    sym (ap (map (λ c. c.name)) (take_next columns i column h is) ∙ map-append (λ c. c.name) (take i columns) (column ∷ []))

@@ -6,7 +6,6 @@ ghost use Rattle.std.specs.Str.Parse.{digits_value};
 ghost use Rattle.bz_lines.specs.LineReader.{to_come};
 ghost use Rattle.bz_lines.specs.LineReading.{read_line};
 ghost use Rattle.bz_lines.specs.NameLists.{is_among};
-ghost use Rattle.bz_model.specs.Parting.{blocks_of};
 ghost use Rattle.bz_model.specs.Strict.{IsPartition};
 ghost use Rattle.bz_part.specs.declared.faults.PartStop.TheVariants.{Fault};
 ghost use Rattle.bz_part.specs.Partition.{HasNoGap, IsGap, ReadsPartition};
@@ -16,7 +15,7 @@ ghost use Rattle.bz_part.specs.PartitionSteps.{ReadsColumn, ReadsColumns, ReadsH
 use crate::faults::{PartFault, PartKind, PartStop};
 use crate::numbers::ColumnNumbers;
 use bz_lines::{Line, Lines, Names};
-use bz_model::{Column, Model};
+use bz_model::{Column, Model, greatest};
 use std::alloc::{AllocError, Global};
 
 /// The most blocks of a partition.
@@ -214,19 +213,6 @@ fn parts_by(
         part.push(numbers.find(column.name.as_slice()).unwrap_or(first))?;
     }
     Ok(part)
-}
-
-/// The number of blocks: the greatest number of the partition.
-fn greatest(part: &[u32]) -> u32
-    ensures { result ≡ blocks_of part.now }
-{
-    let mut most = 0;
-    for b in part {
-        if most < *b {
-            most = *b;
-        }
-    }
-    most
 }
 
 /// Whether a column is in the block.

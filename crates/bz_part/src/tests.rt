@@ -71,64 +71,64 @@ fn read(alloc: Global, text: &[u8], model: &Model) -> Result<Vec<u32>, PartStop>
 }
 
 #[test]
-fn reads_partitions(rt: HostRuntime) {
-    if let Ok(model) = worked(rt.alloc()) {
-        for (text, x, y) in [
-            (b"cpxBendersPartition 1\nx 0\n".as_slice(), 0, 1),
-            (b"* a comment\n\t cpxBendersPartition 0 \r\n\n y 1", 0, 1),
-            (b"cpxBendersPartition 1\n", 1, 1),
-            (b"cpxBendersPartition 0", 0, 0),
-            (b"cpxBendersPartition 2\nx\t1", 1, 2),
-            (b"cpxBendersPartition 1\ny 2\nx 1\n", 1, 2),
-        ] {
-            let part = read(rt.alloc(), text, &model);
-            assert!(rt; part.is_ok());
-            if let Ok(part) = part {
-                assert_eq!(rt; part.as_slice(), [x, y].as_slice());
-            }
+fn reads_partitions(rt: HostRuntime) -> Result<(), Fail> {
+    let model = worked(rt.alloc())?;
+    for (text, x, y) in [
+        (b"cpxBendersPartition 1\nx 0\n".as_slice(), 0, 1),
+        (b"* a comment\n\t cpxBendersPartition 0 \r\n\n y 1", 0, 1),
+        (b"cpxBendersPartition 1\n", 1, 1),
+        (b"cpxBendersPartition 0", 0, 0),
+        (b"cpxBendersPartition 2\nx\t1", 1, 2),
+        (b"cpxBendersPartition 1\ny 2\nx 1\n", 1, 2),
+    ] {
+        let part = read(rt.alloc(), text, &model);
+        assert!(rt; part.is_ok());
+        if let Ok(part) = part {
+            assert_eq!(rt; part.as_slice(), [x, y].as_slice());
         }
     }
+    Ok(())
 }
 
 #[test]
-fn refuses_faults(rt: HostRuntime) {
-    if let Ok(model) = worked(rt.alloc()) {
-        for (text, line, kind) in [
-            (b"".as_slice(), 0, PartKind::Head),
-            (b"cpxBendersPartition 1\nw 0\n", 2, PartKind::Unknown),
-            (
-                b"cpxBendersPartition 2\nx 0\n",
-                0,
-                PartKind::Gap { block: 1 },
-            ),
-            (b"cpxBendersPartition 257\n", 1, PartKind::Limit),
-            (b"cpxBendersPartition 1\nx 01\n", 2, PartKind::Value),
-            (b"\n*\n cpxBendersPartition\n", 3, PartKind::Head),
-            (b"cpxBendersPartition 01\n", 1, PartKind::Head),
-            (b"cpxbendersPartition 1\n", 1, PartKind::Head),
-            (b"cpxBendersPartition 1\nx 0 0\n", 2, PartKind::Fields),
-            (b"cpxBendersPartition 1\nx 0\n\nx 1\n", 4, PartKind::Double),
-            (b"cpxBendersPartition 1\nx +1\n", 2, PartKind::Value),
-            (
-                b"cpxBendersPartition 1\nx 99999999999999999999\n",
-                2,
-                PartKind::Limit,
-            ),
-            (b"cpxBendersPartition 1\r", 1, PartKind::NotText),
-            (b"cpxBendersPartition 300\nx \x01", 1, PartKind::Limit),
-            (b"cpxBendersPartition 1\nw 0 0\x01", 2, PartKind::NotText),
-            (
-                b"cpxBendersPartition 3\nx 3\ny 2",
-                0,
-                PartKind::Gap { block: 1 },
-            ),
-        ] {
-            match read(rt.alloc(), text, &model) {
-                Ok(_) => assert!(rt; false, "at {line}"),
-                Err(stop) => {
-                    assert_eq!(rt; stop, PartStop::Fault(PartFault { line, kind }));
-                }
+fn refuses_faults(rt: HostRuntime) -> Result<(), Fail> {
+    let model = worked(rt.alloc())?;
+    for (text, line, kind) in [
+        (b"".as_slice(), 0, PartKind::Head),
+        (b"cpxBendersPartition 1\nw 0\n", 2, PartKind::Unknown),
+        (
+            b"cpxBendersPartition 2\nx 0\n",
+            0,
+            PartKind::Gap { block: 1 },
+        ),
+        (b"cpxBendersPartition 257\n", 1, PartKind::Limit),
+        (b"cpxBendersPartition 1\nx 01\n", 2, PartKind::Value),
+        (b"\n*\n cpxBendersPartition\n", 3, PartKind::Head),
+        (b"cpxBendersPartition 01\n", 1, PartKind::Head),
+        (b"cpxbendersPartition 1\n", 1, PartKind::Head),
+        (b"cpxBendersPartition 1\nx 0 0\n", 2, PartKind::Fields),
+        (b"cpxBendersPartition 1\nx 0\n\nx 1\n", 4, PartKind::Double),
+        (b"cpxBendersPartition 1\nx +1\n", 2, PartKind::Value),
+        (
+            b"cpxBendersPartition 1\nx 99999999999999999999\n",
+            2,
+            PartKind::Limit,
+        ),
+        (b"cpxBendersPartition 1\r", 1, PartKind::NotText),
+        (b"cpxBendersPartition 300\nx \x01", 1, PartKind::Limit),
+        (b"cpxBendersPartition 1\nw 0 0\x01", 2, PartKind::NotText),
+        (
+            b"cpxBendersPartition 3\nx 3\ny 2",
+            0,
+            PartKind::Gap { block: 1 },
+        ),
+    ] {
+        match read(rt.alloc(), text, &model) {
+            Ok(_) => assert!(rt; false, "at {line}"),
+            Err(stop) => {
+                assert_eq!(rt; stop, PartStop::Fault(PartFault { line, kind }));
             }
         }
     }
+    Ok(())
 }

@@ -9,7 +9,7 @@ use crate::faults::SplitFault;
 use bz_model::{Column, Model};
 
 /// What is wrong with a column in the part `own`: an integer column in a block, or one with no two bounds in the master.
-pub fn column_fault(own: u32, j: u32, column: &Column) -> Option<SplitFault>
+fn column_fault(own: u32, j: u32, column: &Column) -> Option<SplitFault>
     ensures { MatchOption result (IsStrictColumn own column.now) (IsColumnFault own j column.now) }
 {
     if own > 0 && column.integer {
@@ -24,7 +24,7 @@ pub fn column_fault(own: u32, j: u32, column: &Column) -> Option<SplitFault>
 }
 
 /// What is wrong with the first column that may not be where it is.
-pub fn first_column_fault(model: &Model, part: &[u32]) -> Option<SplitFault>
+pub(crate) fn first_column_fault(model: &Model, part: &[u32]) -> Option<SplitFault>
     requires numbers { length part.now ≡ length model.now.columns }
     requires few { length model.now.columns < 2 ^ 28 }
     requires rows { AllByRecursion (λ row. IsInOneBlock part.now row.terms) model.now.rows }

@@ -4,9 +4,7 @@ ghost use Rattle.bz_model.specs.Parting.{blocks_of};
 ghost use Rattle.bz_model.specs.Strict.{HasItsColumns, IsPartition};
 ghost use Rattle.bz_split.specs.Sizes.{rows_of_part};
 
-use crate::rows::home;
-use crate::sizes::greatest;
-use bz_model::Model;
+use bz_model::{Model, greatest, home};
 use bz_num::OutOfMemory;
 use std::alloc::Global;
 

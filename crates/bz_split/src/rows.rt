@@ -2,30 +2,15 @@
 ghost use Rattle.std.specs.Prelude.{◌≡◌, ◌<◌, ◌^◌, length, MatchOption};
 ghost use Rattle.std.specs.List.{AllByRecursion};
 ghost use Rattle.bz_algebra.specs.Sums.{AllBelow};
-ghost use Rattle.bz_model.specs.Parting.{home_of};
 ghost use Rattle.bz_model.specs.Strict.{HasItsColumns, IsInOneBlock};
 ghost use Rattle.bz_split.specs.SplitFaults.{AreTwoBlocks, IsSplitFault};
 
 use crate::faults::SplitFault;
-use bz_model::Model;
+use bz_model::{Model, home};
 use bz_num::SparseRow;
 
-/// The part that a row of these terms belongs to: the block of its first column in a block, or the master.
-pub fn home(part: &[u32], terms: &SparseRow) -> u32
-    requires { AllBelow (length part.now) terms.now }
-    ensures { result ≡ home_of part.now terms.now }
-{
-    for entry in terms.as_slice() {
-        let b = part[entry.0 as usize];
-        if b > 0 {
-            return b;
-        }
-    }
-    0
-}
-
 /// The first two different blocks of a row's columns, where it has columns of two.
-pub fn two_blocks_of(part: &[u32], terms: &SparseRow) -> Option<(u32, u32)>
+fn two_blocks_of(part: &[u32], terms: &SparseRow) -> Option<(u32, u32)>
     requires { AllBelow (length part.now) terms.now }
     ensures { MatchOption result (IsInOneBlock part.now terms.now) (λ blocks. AreTwoBlocks part.now terms.now blocks.0 blocks.1) }
 {
@@ -40,7 +25,7 @@ pub fn two_blocks_of(part: &[u32], terms: &SparseRow) -> Option<(u32, u32)>
 }
 
 /// The first row that joins blocks.
-pub fn first_joined_row(model: &Model, part: &[u32]) -> Option<SplitFault>
+pub(crate) fn first_joined_row(model: &Model, part: &[u32]) -> Option<SplitFault>
     requires columns { HasItsColumns model.now }
     requires numbers { length part.now ≡ length model.now.columns }
     requires few { length model.now.rows < 2 ^ 28 }

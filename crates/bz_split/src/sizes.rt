@@ -8,8 +8,7 @@ ghost use Rattle.bz_split.specs.Sizes.{column_size, row_size, sum_of};
 ghost use Rattle.bz_split.specs.SplitFaults.{IsSplitFault};
 
 use crate::faults::SplitFault;
-use crate::rows::home;
-use bz_model::{Column, Model, Row};
+use bz_model::{Column, Model, Row, greatest, home};
 
 /// The most inequalities of a part.
 const MAX_SIZE: u32 = 1024;
@@ -97,21 +96,8 @@ fn size(model: &Model, part: &[u32], b: u32) -> u32
         + sides_of_columns(part, b, model.columns.as_slice())
 }
 
-/// The number of blocks: the greatest number of the partition.
-pub fn greatest(part: &[u32]) -> u32
-    ensures { result ≡ blocks_of part.now }
-{
-    let mut most = 0;
-    for b in part {
-        if most < *b {
-            most = *b;
-        }
-    }
-    most
-}
-
 /// The first part that is too large. There is none where the partition is strict.
-pub fn first_too_large(model: &Model, part: &[u32]) -> Option<SplitFault>
+pub(crate) fn first_too_large(model: &Model, part: &[u32]) -> Option<SplitFault>
     requires indexes { HasItsColumns model.now }
     requires numbers { length part.now ≡ length model.now.columns }
     requires blocks { blocks_of part.now ≤ 256 }

@@ -8,12 +8,13 @@ use Rattle.bz_model.specs.Points.{coordinate}
 use Rattle.bz_tree.specs.declared.records.NodeBox.{NodeBox}
 use Rattle.bz_tree.specs.Ends.{IsNarrowBox}
 
-set_narrow : (xs : List ℤ) (k : ℕ) (v : ℤ) → IsNarrow v → AllByRecursion IsNarrow xs → AllByRecursion IsNarrow (set xs k v)
+-- no number is wide after one is set, and so none at a place
+pub set_narrow : (xs : List ℤ) (k : ℕ) (v : ℤ) → IsNarrow v → AllByRecursion IsNarrow xs → AllByRecursion IsNarrow (set xs k v)
 set_narrow [] k v h g = tt
 set_narrow (x ∷ xs) zero v h g = (h, g.1)
 set_narrow (x ∷ xs) (suc k) v h g = (g.0, set_narrow xs k v h g.1)
 
-narrow_at : (xs : List ℤ) (k : ℕ) → AllByRecursion IsNarrow xs → IsNarrow (coordinate xs k)
+pub narrow_at : (xs : List ℤ) (k : ℕ) → AllByRecursion IsNarrow xs → IsNarrow (coordinate xs k)
 narrow_at [] k h = omega arith
 narrow_at (x ∷ xs) zero h = h.0
 narrow_at (x ∷ xs) (suc k) h = narrow_at xs k h.1

@@ -1,22 +1,13 @@
 //! The ends of an integer column: its bounds, rounded inward.
-ghost use Rattle.std.specs.Prelude.{◌≡◌, ◌<◌, pos, ◌+ℤ◌, ◌*ℤ◌, ◌<ℤ◌, IfOk};
+ghost use Rattle.std.specs.Prelude.{◌≡◌, pos, ◌*ℤ◌, ◌<ℤ◌, IfOk};
 ghost use Rattle.std.specs.Int.RustNames.{unsigned_abs};
 ghost use Rattle.bz_algebra.specs.Numbers.{IsNarrow};
 ghost use Rattle.bz_tree.specs.Boxes.{IsCeiling, IsFloor};
 ghost use Rattle.bz_tree.specs.Ends.{AreEnds, IsLowerEnd, IsUpperEnd, integers_among};
 
 use bz_model::Column;
-use bz_num::Frac;
+use bz_num::{Frac, divide};
 use std::alloc::{AllocError, Global};
-
-/// The quotient, rounded toward zero, and the rest.
-fn divide(num: i128, den: i128) -> (i128, i128)
-    requires { pos 0 <ℤ den }
-    ensures whole { ((result.0 *ℤ den) +ℤ result.1) ≡ num }
-    ensures rest { unsigned_abs result.1 < unsigned_abs den }
-{
-    (num / den, num % den)
-}
 
 /// The least whole number that is at least the fraction.
 fn ceiling(bound: Frac) -> i128

@@ -1,8 +1,7 @@
 -- A fault is the first of all tests, since those of lesser numbers hold.
 use Rattle.std.proofs.lemmas.Result.{err_from_is_err_and}
 use Rattle.bz_model.specs.Parting.{blocks_of}
-use Rattle.bz_cut.proofs.TestLemmas.{fault_at}
-use Rattle.bz_check.proofs.LeafTests.{below_next}
+use Rattle.bz_cut.proofs.TestLemmas.{below_next, fault_at}
 use Rattle.bz_check.specs.CheckTests.{leaf_eta_tests}
 use Rattle.bz_check.specs.LeafSides.{sides_in}
 use Rattle.bz_check.proofs.leaf_check.judge_etas.Goals as goal

@@ -1,7 +1,7 @@
 use Rattle.std.proofs.Common.{◌≡◌, ◌<◌, rules, Err}
 use Rattle.bz_model.specs.Parting.{width_of}
 use Rattle.bz_cut.specs.CutTests.{own_tests}
-use Rattle.bz_cut.proofs.TestLemmas.{all_at, fault_at, judges_handed}
+use Rattle.bz_cut.proofs.TestLemmas.{below_next, fault_at, judges_handed}
 use Rattle.bz_cut.proofs.cuts.judge_own.Goals as goal
 
 pub returns-in_err-judge_own_at : goal.returns-in_err-judge_own_at
@@ -12,4 +12,4 @@ returns-in_err-judge_own_at c =
     (fault_at c.loop-position.position (width_of c.args.split.now.part c.args.cut.now.block) (own_tests c.args.split.now.model c.args.split.now.part c.args.cut.now) c.in_err-judge_own_at.field-0.0 within c.loop-position.invariant c.in_err-judge_own_at.ensures)
 
 pub loop-position-preserved : goal.loop-position-preserved
-loop-position-preserved c = all_at c.loop-position.position (own_tests c.args.split.now.model c.args.split.now.part c.args.cut.now) c.loop-position.invariant c.in_ok-judge_own_at.ensures
+loop-position-preserved c = below_next c.loop-position.position (own_tests c.args.split.now.model c.args.split.now.part c.args.cut.now) c.loop-position.invariant c.in_ok-judge_own_at.ensures

@@ -3,7 +3,8 @@ use Rattle.std.specs.Int.{w128}
 use Rattle.std.proofs.lemmas.Int.{fits_signed_from_abs}
 use Rattle.bz_num.specs.Row.{IsSparse}
 use Rattle.bz_model.specs.Parting.{terms_in}
-use Rattle.bz_model.proofs.Sparse.{below_at, made_all, made_more, narrow_at, pick_here, pick_there, sparse_terms_in}
+use Rattle.bz_num.proofs.Reduces.{narrow-at}
+use Rattle.bz_model.proofs.Sparse.{below_at, made_all, made_more, pick_here, pick_there, sparse_terms_in}
 use Rattle.bz_model.proofs.sides.pick_terms.Goals as goal
 use Rattle.bz_model.proofs.sides.pick_terms.Goals.{then-part-column+in_ok-push, else-part-column}
 
@@ -20,7 +21,7 @@ loop-entry-preserved c =
     let entry = get_or es i (0, pos 0) in
     let within : entry.0 < length c.args.part.now = below_at _ es i (0, pos 0) (rw c.as_slice-entry-items.ensures.value c.requires.columns) c.loop-entry-test.true in
     let sparse : IsSparse es = rw c.as_slice-entry-items.ensures.value c.as_slice-entry-items.ensures.sparse in
-    let fits : FitsSigned w128 entry.1 = fits_signed_from_abs w128 entry.1 (narrow_at 0 es i (0, pos 0) sparse c.loop-entry-test.true) in
+    let fits : FitsSigned w128 entry.1 = fits_signed_from_abs w128 entry.1 (narrow-at 0 es i (0, pos 0) sparse c.loop-entry-test.true) in
     elim c.if-part-column.branch [
       | then-part-column+in_ok-push w ↦
           rw (w.entries-is, w.in_ok-push.ensures.items, to_z-of_z fits, c.requires.places.each entry.0 within)
