@@ -14,6 +14,11 @@ pub fn text_has_one_certificate()
     ensures text { (text other : List ℕ) (c : Certificate) → IsCertText text c → IsCertText other c → text ≡ other }
 {}
 
+/// A text is that of a certificate, or it has a fault. Nothing runs.
+pub fn each_text_has_an_outcome()
+    ensures { (text : List ℕ) → ((c : Certificate) × IsCertText text c) ⊎ ((number : ℕ) × (kind : CertKind) × IsCertFault text number kind) }
+{}
+
 /// A certificate's text has no fault. Nothing runs.
 pub fn texts_have_no_fault()
     ensures { (text : List ℕ) (c : Certificate) (number : ℕ) (kind : CertKind) → IsCertText text c → IsCertFault text number kind → ⊥ }
