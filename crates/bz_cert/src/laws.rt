@@ -2,8 +2,7 @@
 ghost use Rattle.std.specs.Prelude.{ℕ, List, Result, Ok, Err, ◌≡◌, ◌⊎◌};
 ghost use Rattle.bz_cert.specs.CertFaults.{IsCertFault};
 ghost use Rattle.bz_cert.specs.CertReading.{Answers};
-ghost use Rattle.bz_cert.specs.CertText.{IsCertText, IsWritable, cert_text};
-ghost use Rattle.bz_cert.specs.Shapes.{IsShaped};
+ghost use Rattle.bz_cert.specs.CertText.{IsCertText};
 ghost use Rattle.bz_cert.specs.declared.faults.CertKind.{CertKind};
 ghost use Rattle.bz_cert.specs.declared.faults.CertStop.{CertStop};
 ghost use Rattle.bz_cert.specs.declared.records.Certificate.{Certificate};
@@ -29,8 +28,8 @@ pub fn text_has_one_fault()
     ensures { (text : List ℕ) (n m : ℕ) (j k : CertKind) → IsCertFault text n j → IsCertFault text m k → (n ≡ m) × (j ≡ k) }
 {}
 
-/// What `read_cert` answers on the text that `write_cert` gives is the certificate itself, or that there was no memory.
-/// Nothing runs.
+/// What `read_cert` answers on the text of a certificate, as `write_cert` gives it, is the certificate itself, or that
+/// there was no memory. Nothing runs.
 pub fn what_is_written_is_read()
-    ensures { (c : Certificate) (r : Result Certificate CertStop) → IsShaped c → IsWritable c → Answers (IsCertText (cert_text c)) (IsCertFault (cert_text c)) r → (r ≡ Ok c) ⊎ (r ≡ Err CertStop.OutOfMemory) }
+    ensures { (text : List ℕ) (c : Certificate) (r : Result Certificate CertStop) → IsCertText text c → Answers (IsCertText text) (IsCertFault text) r → (r ≡ Ok c) ⊎ (r ≡ Err CertStop.OutOfMemory) }
 {}
