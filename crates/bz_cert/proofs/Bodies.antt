@@ -1,24 +1,21 @@
 -- Certificates from what was read, by the verdict.
-use Rattle.std.proofs.Common.{◌≡◌, ◌≢◌, ◌∷◌, ◌++◌, ◌∙◌, [], ℕ, suc, ◌+◌, add-zero, ◌<◌, ◌≤◌, ◌^◌, ℤ, pos, List, Option, Some, None, Bool, inl, inr, ap, sym, refl, subst, arith, append-nil, append_assoc, length, map}
-use Rattle.std.specs.List.{AllByRecursion, flat_map}
+use Rattle.std.proofs.Common.{◌≡◌, ◌≢◌, ◌∷◌, ◌++◌, ◌∙◌, [], ℕ, suc, ◌+◌, add-zero, ℤ, pos, List, Some, None, inl, inr, ap, sym, refl, subst, arith, append-nil, append_assoc, length, map}
+use Rattle.std.specs.List.{AllByRecursion}
 use Rattle.bz_algebra.specs.Numbers.{IsNarrow}
-use Rattle.bz_num.specs.Row.{IsSparse, IsSparseFrom}
+use Rattle.bz_num.specs.Row.{IsSparseFrom}
 use Rattle.bz_model.specs.declared.BlockPart.{BlockPart}
-use Rattle.bz_model.specs.declared.Master.{Master}
-use Rattle.bz_model.specs.declared.Parts.{Parts}
 use Rattle.bz_cut.specs.declared.Cut.{Cut}
 use Rattle.bz_tree.specs.declared.TreeNode.{TreeNode}
-use Rattle.bz_cert.specs.declared.faults.CertKind.{CertKind}
 use Rattle.bz_cert.specs.declared.records.Certificate.{Certificate}
 use Rattle.bz_cert.specs.declared.records.Verdict.{Verdict}
 use Rattle.bz_cert.specs.declared.words.Word.{Word}
-use Rattle.bz_cert.specs.Shapes.{AreCuts, AreNarrowParts, AreNodes, IsNarrowCut, IsNarrowLeaf, IsNarrowNode, IsShaped}
-use Rattle.bz_cert.specs.CertText.{CertLine, IsWritable, IsWritableCut, IsWritableNode, block_lines, bound_lines, cert_lines, cut_line, laid_out, line_with, node_line, sparse_numbers}
-use Rattle.bz_cert.specs.CertFaults.{BreaksTree, IsIn, IsWhole, Passes, Standing}
-use Rattle.bz_cert.specs.CertReading.{Awaits, FailsFrom, PassFrom, Reads, ReadsLine, advance, advance_all}
+use Rattle.bz_cert.specs.Shapes.{AreCuts, AreNodes, IsNarrowCut, IsNarrowNode}
+use Rattle.bz_cert.specs.CertText.{CertLine, IsWritableCut, IsWritableNode, block_lines, bound_lines, cut_line, laid_out, line_with, node_line}
+use Rattle.bz_cert.specs.CertFaults.{BreaksTree, IsIn, Passes, Standing}
+use Rattle.bz_cert.specs.CertReading.{Awaits, PassFrom, Reads, ReadsLine, advance, advance_all}
 use Rattle.bz_cert.specs.CertPhases.{AwaitsBlocks, AwaitsBound, ReadsBlocksTo, ReadsBody, ReadsBound, start}
 use Rattle.bz_cert.proofs.Failing.{passes}
-use Rattle.bz_cert.proofs.Phases.{advance_append, blocks_keep, laid_out_append, pass_append, reads_line, reads_on}
+use Rattle.bz_cert.proofs.Phases.{blocks_keep, laid_out_append, reads_line, reads_on}
 use Rattle.bz_cert.proofs.Steps.{one_more}
 
 -- lines that pass, apart
@@ -39,7 +36,7 @@ blocks_narrow : (verdict : Verdict) (before : Standing) (first : ℕ) (parts : L
 blocks_narrow verdict before first [] h = tt
 blocks_narrow verdict before first (part ∷ parts) h = ((h.0.narrow.1.0, h.0.narrow.1.1), blocks_narrow verdict (advance before (line_with Word.Block (pos first ∷ part.times ∷ part.y))) (first + 1) parts h.1)
 
-cuts_narrow : (verdict : Verdict) (before : Standing) (cuts : List Cut) → PassFrom verdict before (map cut_line cuts) → AllByRecursion IsWritableCut cuts →
+pub cuts_narrow : (verdict : Verdict) (before : Standing) (cuts : List Cut) → PassFrom verdict before (map cut_line cuts) → AllByRecursion IsWritableCut cuts →
     AllByRecursion IsNarrowCut cuts
 cuts_narrow verdict before [] h w = tt
 cuts_narrow verdict before (cut ∷ cuts) h w = (
@@ -53,7 +50,7 @@ cuts_narrow verdict before (cut ∷ cuts) h w = (
   cuts_narrow verdict (advance before (cut_line cut)) cuts h.1 w.1,
 )
 
-node_narrow : (verdict : Verdict) (before : Standing) (node : TreeNode) → Passes verdict before (node_line node) → IsWritableNode node → IsNarrowNode node
+pub node_narrow : (verdict : Verdict) (before : Standing) (node : TreeNode) → Passes verdict before (node_line node) → IsWritableNode node → IsNarrowNode node
 node_narrow verdict before (TreeNode.Split position left right) h w = (h.narrow.1.0, h.narrow.1.1.0)
 node_narrow verdict before (TreeNode.Leaf leaf) h w = record { delta = h.narrow.0; bound = h.narrow.1.0; lambda = sparse_narrow 0 leaf.lambda w.sparse }
 

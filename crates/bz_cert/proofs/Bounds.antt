@@ -1,6 +1,6 @@
 -- Blocks with the line behind them, and the cuts and the tree up to the end of a text.
-use Rattle.std.proofs.Common.{◌≡◌, ◌≢◌, ◌==◌, ◌∷◌, ◌++◌, ◌∙◌, [], ℕ, suc, ◌+◌, add-zero, add-one, ◌<◌, ◌≤◌, ◌^◌, ℤ, pos, List, Option, Some, None, Bool, true, false, inl, inr, ap, sym, refl, subst, arith, append-nil, append_assoc, length, length-append, map, take, drop}
-use Rattle.std.specs.List.{AllByRecursion, position_or_len}
+use Rattle.std.proofs.Common.{◌≡◌, ◌≢◌, ◌==◌, ◌∷◌, ◌++◌, ◌∙◌, [], ℕ, ◌+◌, add-zero, add-one, ◌≤◌, ℤ, pos, List, Option, Some, false, inl, inr, sym, refl, subst, arith, length, map, take, drop}
+use Rattle.std.specs.List.{position_or_len}
 use Rattle.std.proofs.lemmas.List.{take-append-drop}
 use Rattle.bz_model.specs.declared.BlockPart.{BlockPart}
 use Rattle.bz_cut.specs.declared.Cut.{Cut}
@@ -8,13 +8,13 @@ use Rattle.bz_tree.specs.declared.TreeNode.{TreeNode}
 use Rattle.bz_cert.specs.declared.faults.CertKind.{CertKind}
 use Rattle.bz_cert.specs.declared.records.Verdict.{Verdict}
 use Rattle.bz_cert.specs.declared.words.Word.{Word}
-use Rattle.bz_cert.specs.CertText.{CertLine, block_lines, bound_lines, cut_line, laid_out, line_with, node_line}
+use Rattle.bz_cert.specs.CertText.{CertLine, block_lines, bound_lines, cut_line, line_with, node_line}
 use Rattle.bz_cert.specs.CertFaults.{AreEnough, AreInOrder, BeginsWithLine, BreaksFirst, BreaksTree, FailsAtOnce, IsIn, IsTooMany, IsWhole, Passes, Standing, tests_behind}
 use Rattle.bz_cert.specs.CertReading.{Awaits, FailsFrom, NumbersFail, PassFrom, Reads, ReadsLine, advance, advance_all, tree_words}
 use Rattle.bz_cert.specs.CertPhases.{AwaitsBlocks, AwaitsBound, AwaitsCuts, AwaitsTree, ReadsBlocks, ReadsCuts, ReadsTree}
 use Rattle.bz_cert.proofs.Failing.{few_cuts, lacks_feed, numbers_fail, passes}
 use Rattle.bz_cert.proofs.NumberTexts.{begins_there, clear_before}
-use Rattle.bz_cert.proofs.Phases.{advance_append, blocks_keep, cuts_keep, fails_later, fails_now, reads_line, reads_on}
+use Rattle.bz_cert.proofs.Phases.{advance_append, cuts_keep, fails_later, fails_now, reads_line, reads_on}
 use Rattle.bz_cert.proofs.SparseLists.{not_empty}
 use Rattle.bz_cert.proofs.Steps.{one_more}
 

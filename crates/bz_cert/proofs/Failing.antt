@@ -1,86 +1,22 @@
 -- How what is left of a text fails at once, from how its first line does.
-use Rattle.std.proofs.Common.{◌≡◌, ◌≢◌, ◌∷◌, ◌++◌, ◌∙◌, [], ℕ, suc, ◌+◌, add-one, ◌<◌, ◌≤◌, ℤ, pos, List, Option, Some, None, Bool, true, false, cond, inl, inr, ap, sym, refl, subst, arith, ◌⊎◌, append-nil, append_assoc, codes, bytes_eq, length, ◌==◌, Result}
+use Rattle.std.proofs.Common.{◌≡◌, ◌≢◌, ◌∷◌, ◌++◌, ◌∙◌, [], ℕ, ◌+◌, add-one, ◌<◌, ◌≤◌, ℤ, pos, List, Option, Some, None, false, inl, inr, ap, sym, refl, subst, arith, ◌⊎◌, append-nil, length, ◌==◌, Result}
 use Rattle.std.specs.List.{AllByRecursion}
 use Rattle.std.proofs.lemmas.List.{append_cancel_left}
-use Rattle.bz_algebra.specs.Numbers.{IsNarrow}
 use Rattle.bz_cut.specs.declared.Cut.{Cut}
 use Rattle.bz_tree.specs.declared.TreeNode.{TreeNode}
 use Rattle.bz_cert.specs.declared.faults.CertKind.{CertKind}
 use Rattle.bz_cert.specs.declared.records.Verdict.{Verdict}
 use Rattle.bz_cert.specs.declared.words.Word.{Word}
 use Rattle.bz_cert.specs.CertText.{CertLine, IsWritableNode, cut_line, line_bytes, line_with, node_line, sparse_numbers, spelled, word_bytes}
-use Rattle.bz_cert.specs.CertFaults.{AreEnough, AreInOrder, AreOfCut, AreOfLeaf, number_at, BeginsWith, BeginsWithLine, BreaksFirst, BreaksTree, FailsAtOnce, HasWord, IsIn, IsIndex, IsLineOf, IsPossible, IsTooMany, IsWhole, Passes, Standing, indexes_of, tests_behind, tests_of, words_behind}
-use Rattle.bz_cert.specs.CertReading.{Answers, AreNumbers, AreNumbersOf, Awaits, FailsAwaiting, StopsAs, BeginsWithCertLine, BeginsWithWord, NumbersFail, Only, tree_words}
-use Rattle.bz_cert.proofs.ListLemmas.{Stops, same_until}
+use Rattle.bz_cert.specs.CertFaults.{AreEnough, AreInOrder, AreOfCut, AreOfLeaf, number_at, BeginsWith, BeginsWithLine, BreaksFirst, BreaksTree, FailsAtOnce, HasWord, IsIn, IsLineOf, IsPossible, IsTooMany, IsWhole, Passes, Standing, tests_behind, tests_of}
+use Rattle.bz_cert.specs.CertReading.{Answers, AreNumbersOf, Awaits, FailsAwaiting, StopsAs, BeginsWithCertLine, BeginsWithWord, NumbersFail, Only, tree_words}
+use Rattle.bz_cert.proofs.ListLemmas.{same_until}
 use Rattle.bz_cert.specs.declared.faults.CertStop.{CertStop}
 use Rattle.std.specs.Prelude.{IsErrAnd}
 use Rattle.bz_cert.proofs.Refusals.{handed_on}
 use Rattle.bz_cert.proofs.SparseLists.{not_empty}
-use Rattle.bz_cert.proofs.NumberTexts.{begins_stops, clear_of, same_spelling}
-
--- the word of bytes
-word_from : List ℕ → Word
-word_from bytes =
-    cond (bytes_eq bytes (codes "master")) Word.Master
-    (cond (bytes_eq bytes (codes "eta")) Word.Eta
-    (cond (bytes_eq bytes (codes "block")) Word.Block
-    (cond (bytes_eq bytes (codes "value")) Word.Value
-    (cond (bytes_eq bytes (codes "ray")) Word.Ray
-    (cond (bytes_eq bytes (codes "cuts")) Word.Cuts
-    (cond (bytes_eq bytes (codes "cut")) Word.Cut
-    (cond (bytes_eq bytes (codes "split")) Word.Split
-    (cond (bytes_eq bytes (codes "leaf")) Word.Leaf Word.End))))))))
-
-from_bytes : (w : Word) → word_from (word_bytes w) ≡ w
-unfolding word_from
-from_bytes Word.Master = refl
-from_bytes Word.Eta = refl
-from_bytes Word.Block = refl
-from_bytes Word.Value = refl
-from_bytes Word.Ray = refl
-from_bytes Word.Cuts = refl
-from_bytes Word.Cut = refl
-from_bytes Word.Split = refl
-from_bytes Word.Leaf = refl
-from_bytes Word.End = refl
-
--- no word has a blank
-no_blank : (w : Word) → AllByRecursion (λ b. b ≢ 32) (word_bytes w)
-no_blank Word.Master = clear_of 32 (word_bytes Word.Master) refl
-no_blank Word.Eta = clear_of 32 (word_bytes Word.Eta) refl
-no_blank Word.Block = clear_of 32 (word_bytes Word.Block) refl
-no_blank Word.Value = clear_of 32 (word_bytes Word.Value) refl
-no_blank Word.Ray = clear_of 32 (word_bytes Word.Ray) refl
-no_blank Word.Cuts = clear_of 32 (word_bytes Word.Cuts) refl
-no_blank Word.Cut = clear_of 32 (word_bytes Word.Cut) refl
-no_blank Word.Split = clear_of 32 (word_bytes Word.Split) refl
-no_blank Word.Leaf = clear_of 32 (word_bytes Word.Leaf) refl
-no_blank Word.End = clear_of 32 (word_bytes Word.End) refl
-
--- nor a line feed
-pub no_feed : (w : Word) → AllByRecursion (λ b. b ≢ 10) (word_bytes w)
-no_feed Word.Master = clear_of 10 (word_bytes Word.Master) refl
-no_feed Word.Eta = clear_of 10 (word_bytes Word.Eta) refl
-no_feed Word.Block = clear_of 10 (word_bytes Word.Block) refl
-no_feed Word.Value = clear_of 10 (word_bytes Word.Value) refl
-no_feed Word.Ray = clear_of 10 (word_bytes Word.Ray) refl
-no_feed Word.Cuts = clear_of 10 (word_bytes Word.Cuts) refl
-no_feed Word.Cut = clear_of 10 (word_bytes Word.Cut) refl
-no_feed Word.Split = clear_of 10 (word_bytes Word.Split) refl
-no_feed Word.Leaf = clear_of 10 (word_bytes Word.Leaf) refl
-no_feed Word.End = clear_of 10 (word_bytes Word.End) refl
-
--- a line has one first word
-same_word : (line : List ℕ) (v w : Word) → HasWord line v → HasWord line w → v ≡ w
-same_word line v w h k =
-    let parts : (word_bytes v ≡ word_bytes w) × (h.behind ≡ k.behind) =
-    same_until (λ b. b ≢ 32) (word_bytes v) (word_bytes w) h.behind k.behind (no_blank v) (no_blank w)
-    (begins_stops 32 h.behind h.apart) (begins_stops 32 k.behind k.apart) (sym h.laid_out ∙ k.laid_out) in
-    sym (from_bytes v) ∙ ap word_from parts.0 ∙ from_bytes w
-
-spelled_apart : (ns : List ℤ) → BeginsWith 32 (spelled ns)
-spelled_apart [] = tt
-spelled_apart (n ∷ ns) = refl
+use Rattle.bz_cert.proofs.NumberTexts.{begins_stops, same_spelling}
+use Rattle.bz_cert.proofs.WordTexts.{no_blank, same_word, spelled_apart}
 
 word_of_line : (line : List ℕ) (w : Word) (ns : List ℤ) → IsLineOf line w ns → HasWord line w
 word_of_line line w ns h = record { behind = spelled ns; laid_out = h.spelling; apart = spelled_apart ns }

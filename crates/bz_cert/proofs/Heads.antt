@@ -1,10 +1,9 @@
 -- How a text fails in its two first lines.
-use Rattle.std.proofs.Common.{◌≡◌, ◌≢◌, ◌==◌, false, ◌∷◌, ◌++◌, ◌∙◌, [], ℕ, List, length, inl, inr, ap, sym, refl, subst, append-nil, append_assoc}
-use Rattle.std.specs.List.{AllByRecursion}
+use Rattle.std.proofs.Common.{◌≡◌, ◌∷◌, ◌++◌, ◌∙◌, [], ℕ, List, inl, inr, ap, sym, refl, append-nil, append_assoc}
 use Rattle.bz_cert.specs.declared.faults.CertKind.{CertKind}
 use Rattle.bz_cert.specs.declared.records.Verdict.{Verdict}
 use Rattle.bz_cert.specs.CertText.{first_line, head_bytes, verdict_line}
-use Rattle.bz_cert.specs.CertFaults.{BeginsWith, BeginsWithLine, IsCertFault}
+use Rattle.bz_cert.specs.CertFaults.{BeginsWith, IsCertFault}
 
 -- where no line feed stands, nothing is left
 pub nothing_left : (from_feed : List ℕ) → BeginsWith 10 from_feed → ((behind : List ℕ) → from_feed ≡ 10 ∷ behind → ⊥) → from_feed ≡ []

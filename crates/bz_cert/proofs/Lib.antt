@@ -1,11 +1,14 @@
 pub mod Bodies
 pub mod Bounds
 pub mod CertLines
+pub mod Decisions
 pub mod Failing
 pub mod Heads
+pub mod LineOutcomes
 pub mod ListIndexes
 pub mod ListLemmas
 pub mod NumberTexts
+pub mod PassingLines
 pub mod Phases
 pub mod Refusals
 pub mod RoundTrip
@@ -16,4 +19,6 @@ pub mod TextFaults
 pub mod TextLines
 pub mod TextsOnce
 pub mod TextsPass
+pub mod TextsTold
+pub mod WordTexts
 pub mod Written

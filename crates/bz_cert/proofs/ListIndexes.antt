@@ -1,19 +1,17 @@
 -- The counts and indexes of sparse lists among numbers.
-use Rattle.std.proofs.Common.{◌≡◌, ◌∷◌, ◌++◌, ◌∙◌, [], ℕ, suc, ◌+◌, ◌-◌, ◌*◌, ℤ, pos, nat_abs, List, length, take, drop, get_or, arith, ◌<◌, ◌≤◌, ◌^◌, ap, sym, refl, subst, append-nil}
-use Rattle.std.specs.Int.RustNames.{unsigned_abs}
-use Rattle.std.specs.List.{AllByRecursion, flat_map}
+use Rattle.std.proofs.Common.{◌≡◌, ◌∷◌, ◌++◌, ◌∙◌, [], ℕ, suc, ◌-◌, ◌*◌, ℤ, pos, nat_abs, List, length, take, drop, get_or, arith, ◌<◌, ◌≤◌, ◌^◌, ap, sym, refl, subst, append-nil}
+use Rattle.std.specs.List.{AllByRecursion}
 use Rattle.std.proofs.Math.Seq.{take-length}
 use Rattle.bz_algebra.specs.Sums.{AllBelow}
 use Rattle.bz_num.specs.Row.{IsSparse}
 use Rattle.bz_cut.specs.declared.Cut.{Cut}
 use Rattle.bz_tree.specs.declared.Leaf.{Leaf}
-use Rattle.bz_tree.specs.declared.TreeNode.{TreeNode}
 use Rattle.bz_cert.specs.declared.words.Word.{Word}
 use Rattle.bz_cert.specs.CertFaults.{AreInOrder, AreOfCut, AreOfLeaf, IsIndex, Standing, alternate, behind_list, indexes_of, list_indexes, lists_indexes}
 use Rattle.bz_cert.specs.CertReading.{AreTwoLists, BeginsWithList}
-use Rattle.bz_cert.specs.CertText.{IsWritableCut, IsWritableNode, cut_line, line_with, node_line, sparse_numbers}
-use Rattle.bz_cert.proofs.ListLemmas.{all_apart, all_joined, same_head, same_tail}
-use Rattle.bz_cert.proofs.SparseLists.{nothing_behind, pair_numbers, same_index, same_list}
+use Rattle.bz_cert.specs.CertText.{IsWritableCut, cut_line, sparse_numbers}
+use Rattle.bz_cert.proofs.ListLemmas.{all_apart}
+use Rattle.bz_cert.proofs.SparseLists.{pair_numbers, same_index, same_list}
 
 -- an index that is a natural number
 pub index_below : (n : ℕ) → IsIndex (pos n) → n < 2 ^ 32

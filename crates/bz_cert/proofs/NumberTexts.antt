@@ -2,7 +2,6 @@
 use Rattle.std.proofs.Common.{◌≡◌, ◌≢◌, ◌==◌, true, false, Bool, cond, ◌||◌, not, ◌∷◌, ◌++◌, ◌∙◌, [], ℕ, suc, ◌+◌, ℤ, pos, negsuc, neg_ℤ, List, length, take, drop, get_or, arith, rules, ◌<◌, ◌≤◌, ◌^◌, append_assoc, append-nil, ap, sym, refl, subst, eq-eqb, Result, Ok, Err, Some, FitsSigned, to_z, of_z, to_z-of_z, length-append}
 use Rattle.std.specs.Fmt.{decimal, signed_decimal}
 use Rattle.std.specs.Int.{w128}
-use Rattle.std.specs.Int.RustNames.{unsigned_abs}
 use Rattle.std.specs.List.{AllByRecursion, flat_map, list_any, position_or_len}
 use Rattle.std.specs.Str.{IsUtf8, IsAscii}
 use Rattle.std.specs.Str.Parse.{AllDigits, ParsesSigned, digits_value, IsNumeral}
@@ -67,6 +66,13 @@ signed_same (negsuc m) (pos n) h k e =
 signed_same (negsuc m) (negsuc n) h k e =
     let same : suc m ≡ suc n = decimal_same (suc m) (suc n) (neg_size m h) (neg_size n k) (same_tail 45 45 _ _ e) in
     let less : m ≡ n = omega arith in ap negsuc less
+
+-- what the digits of a field say that spells a number
+pub plain_value : (field : List ℕ) (n : ℕ) → IsSpelled field (pos n) → digits_value 10 field ≡ n
+plain_value field n s = ap (digits_value 10) s.spelling ∙ (decimal_is_IsNumeral_wide n (pos_size n s.narrow)).1
+
+pub minus_value : (field : List ℕ) (n : ℕ) → IsSpelled field (negsuc n) → digits_value 10 (drop 1 field) ≡ suc n
+minus_value field n s = ap (λ l. digits_value 10 (drop 1 l)) s.spelling ∙ (decimal_is_IsNumeral_wide (suc n) (neg_size n s.narrow)).1
 
 -- what parses where the field spells a number
 ok_of : {X E : Type 0} (r : Result X E) (P : Type 0) (v : X) → Rattle.std.specs.Result.OkIff r P v → P → r ≡ Ok v

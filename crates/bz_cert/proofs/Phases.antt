@@ -1,16 +1,15 @@
 -- Lines one after the other, and what they tell.
-use Rattle.std.proofs.Common.{◌≡◌, ◌≢◌, ◌∷◌, ◌++◌, ◌∙◌, [], ℕ, suc, ◌+◌, ◌-◌, add-zero, add-one, ◌<◌, ◌≤◌, ◌^◌, ℤ, pos, List, Option, Some, None, Bool, true, false, nat_lt, inl, inr, ap, sym, refl, subst, arith, append-nil, append_assoc, length, length-append, map}
-use Rattle.std.specs.List.{AllByRecursion, enumerate_from, flat_map}
+use Rattle.std.proofs.Common.{◌≡◌, ◌∷◌, ◌++◌, ◌∙◌, [], ℕ, suc, ◌+◌, add-zero, ◌<◌, pos, List, ap, sym, refl, subst, arith, append-nil, append_assoc, length, length-append, map}
+use Rattle.std.specs.List.{enumerate_from}
 use Rattle.std.proofs.lemmas.Grind.{flat_map-append}
 use Rattle.bz_model.specs.declared.BlockPart.{BlockPart}
 use Rattle.bz_cut.specs.declared.Cut.{Cut}
-use Rattle.bz_tree.specs.declared.TreeNode.{TreeNode}
 use Rattle.bz_cert.specs.declared.faults.CertKind.{CertKind}
 use Rattle.bz_cert.specs.declared.records.Verdict.{Verdict}
 use Rattle.bz_cert.specs.declared.words.Word.{Word}
-use Rattle.bz_cert.specs.CertText.{CertLine, block_lines, cut_line, laid_out, line_bytes, line_with, node_line}
-use Rattle.bz_cert.specs.CertFaults.{FailsAtOnce, Passes, Standing, blocks_in, cuts_in, leaves_in, splits_in, told_in}
-use Rattle.bz_cert.specs.CertReading.{Awaits, BeginsWithCertLine, FailsFrom, PassFrom, Reads, ReadsLine, advance, advance_all}
+use Rattle.bz_cert.specs.CertText.{CertLine, block_lines, cut_line, laid_out, line_bytes, line_with}
+use Rattle.bz_cert.specs.CertFaults.{FailsAtOnce, Passes, Standing}
+use Rattle.bz_cert.specs.CertReading.{FailsFrom, PassFrom, Reads, ReadsLine, advance, advance_all}
 
 pub map-append : {X Y : Type 0} (f : X → Y) (xs ys : List X) → map f (xs ++ ys) ≡ map f xs ++ map f ys
 map-append f [] ys = refl

@@ -1,8 +1,7 @@
 -- Where sparse lists end among numbers.
-use Rattle.std.proofs.Common.{◌≡◌, ◌==◌, false, true, ◌∷◌, ◌++◌, ◌∙◌, [], ℕ, suc, ◌+◌, ◌-◌, ℤ, pos, List, length, take, drop, arith, ◌<◌, ◌≤◌, ◌^◌, ap, sym, refl, append-nil, append_assoc, length-append}
+use Rattle.std.proofs.Common.{◌≡◌, ◌==◌, false, true, ◌∷◌, ◌++◌, ◌∙◌, [], ℕ, suc, ◌+◌, ℤ, pos, List, length, arith, ◌<◌, ◌≤◌, ◌^◌, ap, sym, refl, append-nil, append_assoc, length-append}
 use Rattle.std.specs.Int.RustNames.{unsigned_abs}
 use Rattle.std.specs.List.{flat_map}
-use Rattle.std.proofs.Math.Seq.{take-length}
 use Rattle.std.proofs.lemmas.Grind.{flat_map-append}
 use Rattle.std.proofs.lemmas.Bool.{eqb-true}
 use Rattle.bz_algebra.specs.Sums.{AllBelow}

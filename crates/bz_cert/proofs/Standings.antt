@@ -1,12 +1,12 @@
 -- What the lines before a line tell, one line after the other.
-use Rattle.std.proofs.Common.{◌≡◌, ◌∷◌, ◌++◌, ◌∙◌, [], ℕ, ◌+◌, zero-add, add-zero, add_assoc, List, Option, Some, None, ap, sym, refl, subst, append-nil, append_assoc, length}
+use Rattle.std.proofs.Common.{◌≡◌, ◌∷◌, ◌++◌, ◌∙◌, [], ℕ, ◌+◌, zero-add, List, Option, Some, None, ap, sym, refl, subst, append-nil, append_assoc, length}
 use Rattle.std.specs.List.{sum_by}
 use Rattle.std.proofs.lemmas.List.Sums.{sum_by-append}
 use Rattle.bz_cert.specs.declared.faults.CertKind.{CertKind}
 use Rattle.bz_cert.specs.declared.records.Verdict.{Verdict}
 use Rattle.bz_cert.specs.declared.words.Word.{Word}
 use Rattle.bz_cert.specs.CertText.{CertLine, head_bytes, laid_out}
-use Rattle.bz_cert.specs.CertFaults.{AllPass, FailsAtOnce, FailsBehindHead, IsCertFault, Standing, blocks_in, cuts_in, last_word, leaves_in, splits_in, standing_of, told_in, Passes}
+use Rattle.bz_cert.specs.CertFaults.{AllPass, FailsAtOnce, IsCertFault, Standing, blocks_in, cuts_in, last_word, leaves_in, splits_in, standing_of, told_in}
 use Rattle.bz_cert.specs.CertReading.{FailsFrom, PassFrom, advance, advance_all}
 use Rattle.bz_cert.specs.CertPhases.{start}
 

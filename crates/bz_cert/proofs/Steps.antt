@@ -1,18 +1,17 @@
 -- One more block, cut or node.
-use Rattle.std.proofs.Common.{◌≡◌, ◌≢◌, ◌∷◌, ◌++◌, ◌∙◌, [], ℕ, suc, ◌+◌, ◌-◌, add-zero, add-one, ◌<◌, ◌≤◌, ◌^◌, ℤ, pos, List, Option, Some, None, Bool, true, false, nat_lt, inl, inr, ap, sym, refl, subst, arith, append-nil, append_assoc, length, length-append, map}
-use Rattle.std.specs.List.{AllByRecursion, flat_map}
+use Rattle.std.proofs.Common.{◌≡◌, ◌∷◌, ◌++◌, ◌∙◌, [], ℕ, suc, ◌+◌, add-zero, ◌<◌, ◌≤◌, pos, List, inl, inr, ap, sym, refl, subst, arith, append-nil, append_assoc, length, length-append, map}
+use Rattle.std.specs.List.{flat_map}
 use Rattle.std.proofs.lemmas.Bool.{le-ltb, lt-ltb}
 use Rattle.bz_model.specs.declared.BlockPart.{BlockPart}
 use Rattle.bz_cut.specs.declared.Cut.{Cut}
 use Rattle.bz_tree.specs.declared.TreeNode.{TreeNode}
 use Rattle.bz_tree.specs.Trees.{Tree, tip, fork, preorder}
-use Rattle.bz_cert.specs.declared.faults.CertKind.{CertKind}
 use Rattle.bz_cert.specs.declared.records.Verdict.{Verdict}
 use Rattle.bz_cert.specs.declared.words.Word.{Word}
 use Rattle.bz_cert.specs.CertText.{CertLine, IsWritableCut, IsWritableNode, block_lines, cut_line, line_with, node_line}
-use Rattle.bz_cert.specs.CertFaults.{AreOfCut, AreOfLeaf, BreaksTree, IsIn, IsWhole, Passes, Standing, words_of_cuts}
+use Rattle.bz_cert.specs.CertFaults.{AreOfLeaf, BreaksTree, IsIn, IsWhole, Passes, Standing, words_of_cuts}
 use Rattle.bz_cert.specs.CertReading.{Awaits, Reads, ReadsLine, advance, advance_all, tree_words}
-use Rattle.bz_cert.specs.CertPhases.{AwaitsBlocks, AwaitsCuts, AwaitsTree, CutsTold, MakesTree, NodesTold, trees_behind}
+use Rattle.bz_cert.specs.CertPhases.{AwaitsBlocks, AwaitsTree, CutsTold, MakesTree, NodesTold, trees_behind}
 use Rattle.bz_cert.proofs.Failing.{cut_numbers, passes}
 use Rattle.bz_cert.proofs.Phases.{advance_append, block_lines_push, map-append, reads_line, reads_none, reads_on}
 

@@ -15,7 +15,8 @@ use Rattle.bz_cert.specs.Shapes.{HasPartsOf, IsShaped}
 use Rattle.bz_cert.specs.CertFaults.{AllPass, BeginsWith, BeginsWithLine, BreaksFirst, BreaksTree, EndsInHead, FailsAtOnce, FailsBehindHead, HasWord, IsCertFault, IsIn, IsLineOf, IsTooMany, AreEnough, AreInOrder, Passes, Standing, Test, last_word, standing_of, tests_behind, tests_of, words_behind}
 use Rattle.bz_cert.proofs.ListLemmas.{Stops, same_until}
 use Rattle.bz_cert.proofs.NumberTexts.{begins_stops, clear_of}
-use Rattle.bz_cert.proofs.TextLines.{IsNarrowLine, first_apart, line_clear, line_in_front, never_empty, same_line, same_words, spelled_apart}
+use Rattle.bz_cert.proofs.TextLines.{IsNarrowLine, first_apart, line_clear, line_in_front, never_empty, same_line}
+use Rattle.bz_cert.proofs.WordTexts.{same_words, spelled_apart}
 use Rattle.bz_cert.proofs.TextsOnce.{no_feed_in_verdict, same_head_bytes}
 use Rattle.bz_cert.proofs.Standings.{all_pass}
 use Rattle.bz_cert.proofs.TextsPass.{cert_passes}
@@ -55,7 +56,7 @@ breaks_no_test verdict before line kind p (inr (_, inr (_, inr (_, inr (_, inr (
 breaks_no_test verdict before line kind p (inr (_, inr (_, inr (_, inr (_, inr (_, inr (_, none))))))) = none
 
 -- behind the last line no line passes
-behind_no_end : (verdict : Verdict) (before : Standing) (line : CertLine) → Passes verdict before line → before.last ≡ Some Word.End → ⊥
+pub behind_no_end : (verdict : Verdict) (before : Standing) (line : CertLine) → Passes verdict before line → before.last ≡ Some Word.End → ⊥
 behind_no_end verdict before line p e =
     subst (λ (w : Option Word). IsIn (words_behind verdict (nat_lt before.cuts before.told) w) line.word) e p.possible
 
@@ -193,7 +194,7 @@ none_behind verdict seen (l ∷ ls) (x ∷ xs) r n j p q last h e =
     (subst (λ (ls : List CertLine). FailsAtOnce verdict (standing_of ls) (2 + length ls) r n j) here h) first.1
 
 -- the first two lines, of which the first ends in its line feed
-head_apart : (verdict : Verdict) (rest : List ℕ) → head_bytes verdict ++ rest ≡ first_line ++ 10 ∷ (verdict_line verdict ++ 10 ∷ rest)
+pub head_apart : (verdict : Verdict) (rest : List ℕ) → head_bytes verdict ++ rest ≡ first_line ++ 10 ∷ (verdict_line verdict ++ 10 ∷ rest)
 head_apart verdict rest = ap (λ t. first_line ++ 10 ∷ t) (append_assoc (verdict_line verdict) (10 ∷ []) rest)
 
 no_feed_in_first : AllByRecursion (λ b. b ≢ 10) first_line

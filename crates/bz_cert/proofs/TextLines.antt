@@ -1,63 +1,11 @@
 -- The bytes of lines tell the lines.
-use Rattle.std.proofs.Common.{◌≡◌, ◌≢◌, ◌∷◌, ◌++◌, ◌∙◌, [], ℕ, ℤ, List, ap, sym, refl, append-nil, append_assoc, codes, bytes_eq, cond}
+use Rattle.std.proofs.Common.{◌≡◌, ◌≢◌, ◌∷◌, ◌++◌, ◌∙◌, [], ℕ, List, ap, sym, refl, append-nil, append_assoc}
 use Rattle.std.specs.List.{AllByRecursion}
 use Rattle.bz_algebra.specs.Numbers.{IsNarrow}
-use Rattle.bz_cert.specs.declared.words.Word.{Word}
 use Rattle.bz_cert.specs.CertText.{CertLine, laid_out, line_bytes, line_with, spelled, word_bytes}
-use Rattle.bz_cert.specs.CertFaults.{BeginsWith}
-use Rattle.bz_cert.proofs.Failing.{no_feed}
 use Rattle.bz_cert.proofs.ListLemmas.{all_joined, same_tail, same_until}
-use Rattle.bz_cert.proofs.NumberTexts.{begins_stops, clear_of, same_numbers, spelled_clear}
-
--- the word of bytes
-word_from : List ℕ → Word
-word_from bytes =
-    cond (bytes_eq bytes (codes "master")) Word.Master
-    (cond (bytes_eq bytes (codes "eta")) Word.Eta
-    (cond (bytes_eq bytes (codes "block")) Word.Block
-    (cond (bytes_eq bytes (codes "value")) Word.Value
-    (cond (bytes_eq bytes (codes "ray")) Word.Ray
-    (cond (bytes_eq bytes (codes "cuts")) Word.Cuts
-    (cond (bytes_eq bytes (codes "cut")) Word.Cut
-    (cond (bytes_eq bytes (codes "split")) Word.Split
-    (cond (bytes_eq bytes (codes "leaf")) Word.Leaf Word.End))))))))
-
-from_bytes : (w : Word) → word_from (word_bytes w) ≡ w
-unfolding word_from
-from_bytes Word.Master = refl
-from_bytes Word.Eta = refl
-from_bytes Word.Block = refl
-from_bytes Word.Value = refl
-from_bytes Word.Ray = refl
-from_bytes Word.Cuts = refl
-from_bytes Word.Cut = refl
-from_bytes Word.Split = refl
-from_bytes Word.Leaf = refl
-from_bytes Word.End = refl
-
--- no word has a blank
-no_blank : (w : Word) → AllByRecursion (λ b. b ≢ 32) (word_bytes w)
-no_blank Word.Master = clear_of 32 (word_bytes Word.Master) refl
-no_blank Word.Eta = clear_of 32 (word_bytes Word.Eta) refl
-no_blank Word.Block = clear_of 32 (word_bytes Word.Block) refl
-no_blank Word.Value = clear_of 32 (word_bytes Word.Value) refl
-no_blank Word.Ray = clear_of 32 (word_bytes Word.Ray) refl
-no_blank Word.Cuts = clear_of 32 (word_bytes Word.Cuts) refl
-no_blank Word.Cut = clear_of 32 (word_bytes Word.Cut) refl
-no_blank Word.Split = clear_of 32 (word_bytes Word.Split) refl
-no_blank Word.Leaf = clear_of 32 (word_bytes Word.Leaf) refl
-no_blank Word.End = clear_of 32 (word_bytes Word.End) refl
-
--- a word in front of a blank, or of the end
-pub same_words : (v w : Word) (r s : List ℕ) → BeginsWith 32 r → BeginsWith 32 s → word_bytes v ++ r ≡ word_bytes w ++ s → (v ≡ w) × (r ≡ s)
-same_words v w r s h k e =
-    let parts : (word_bytes v ≡ word_bytes w) × (r ≡ s) =
-    same_until (λ b. b ≢ 32) (word_bytes v) (word_bytes w) r s (no_blank v) (no_blank w) (begins_stops 32 r h) (begins_stops 32 s k) e in
-    (sym (from_bytes v) ∙ ap word_from parts.0 ∙ from_bytes w, parts.1)
-
-pub spelled_apart : (ns : List ℤ) → BeginsWith 32 (spelled ns)
-spelled_apart [] = tt
-spelled_apart (n ∷ ns) = refl
+use Rattle.bz_cert.proofs.NumberTexts.{same_numbers, spelled_clear}
+use Rattle.bz_cert.proofs.WordTexts.{no_feed, same_words, spelled_apart}
 
 -- no number of the line is wide
 abbrev pub IsNarrowLine : CertLine → Type 0

@@ -21,10 +21,10 @@ narrow_lines verdict before [] h = tt
 narrow_lines verdict before (l ∷ ls) h = (h.0.narrow, narrow_lines verdict (advance before l) ls h.1)
 
 -- the verdict of its line
-verdict_from : List ℕ → Verdict
+pub verdict_from : List ℕ → Verdict
 verdict_from bytes = cond (bytes_eq bytes (codes "verdict optimal")) Optimal (cond (bytes_eq bytes (codes "verdict infeasible")) Infeasible Unbounded)
 
-from_line : (v : Verdict) → verdict_from (verdict_line v) ≡ v
+pub from_line : (v : Verdict) → verdict_from (verdict_line v) ≡ v
 unfolding verdict_from
 from_line Optimal = refl
 from_line Infeasible = refl

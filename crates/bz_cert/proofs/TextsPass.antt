@@ -124,12 +124,12 @@ leaf_passes verdict before trees nodes leaf h few narrow list = record {
   in_order = (record { delta = leaf.delta; bound = leaf.bound; lambda = leaf.lambda; numbers_are = refl }, list.sparse);
 }
 
-behind_split : (verdict : Verdict) (before : Standing) (trees nodes position : ℕ) (left right : ℤ) → BeforeNodes verdict before (suc trees) nodes →
+pub behind_split : (verdict : Verdict) (before : Standing) (trees nodes position : ℕ) (left right : ℤ) → BeforeNodes verdict before (suc trees) nodes →
     BeforeNodes verdict (advance before (node_line (TreeNode.Split position left right))) (suc (suc trees)) (suc nodes)
 behind_split verdict before trees nodes position left right h =
     record { words_are = refl; trees_are = omega (arith, h.trees_are); nodes_are = omega (arith, h.nodes_are) }
 
-behind_leaf : (verdict : Verdict) (before : Standing) (trees nodes : ℕ) (leaf : Leaf) → BeforeNodes verdict before (suc trees) nodes →
+pub behind_leaf : (verdict : Verdict) (before : Standing) (trees nodes : ℕ) (leaf : Leaf) → BeforeNodes verdict before (suc trees) nodes →
     BeforeNodes verdict (advance before (node_line (TreeNode.Leaf leaf))) trees (suc nodes)
 behind_leaf verdict before trees nodes leaf h =
     record { words_are = refl; trees_are = omega (arith, h.trees_are); nodes_are = omega (arith, h.nodes_are) }
@@ -191,7 +191,7 @@ cut_allowed verdict before cuts h =
     let lt : before.cuts < before.told = omega (arith, h.told) in
     is_possible _ (words_of_cuts true) Word.Cut (h.words_are _ ∙ ap words_of_cuts (lt-ltb _ _ lt)) (inl refl)
 
-behind_cut : (verdict : Verdict) (before : Standing) (cut : Cut) (cuts : ℕ) → BeforeCuts verdict before (suc cuts) →
+pub behind_cut : (verdict : Verdict) (before : Standing) (cut : Cut) (cuts : ℕ) → BeforeCuts verdict before (suc cuts) →
     BeforeCuts verdict (advance before (cut_line cut)) cuts
 behind_cut verdict before cut cuts h = record {
   words_are = λ to_come. refl;
@@ -200,7 +200,7 @@ behind_cut verdict before cut cuts h = record {
   leaves = omega (arith, h.leaves);
 }
 
-first_node : (verdict : Verdict) (before : Standing) → BeforeCuts verdict before 0 → BeforeNodes verdict before 1 0
+pub first_node : (verdict : Verdict) (before : Standing) → BeforeCuts verdict before 0 → BeforeNodes verdict before 1 0
 first_node verdict before h =
     let ge : before.told ≤ before.cuts = omega (arith, h.told) in
     record {
@@ -241,7 +241,7 @@ count_passes verdict before count h few =
       in_order = tt;
     }
 
-behind_count : (verdict : Verdict) (before : Standing) (count : ℕ) → BeforeBound verdict before →
+pub behind_count : (verdict : Verdict) (before : Standing) (count : ℕ) → BeforeBound verdict before →
     BeforeCuts verdict (advance before (line_with Word.Cuts (pos count ∷ []))) count
 behind_count verdict before count h = record {
   words_are = λ to_come. refl;
@@ -289,7 +289,7 @@ block_passes verdict before last first block h small narrow = record {
   in_order = ap suc (sym h.blocks_are);
 }
 
-behind_block : (verdict : Verdict) (before : Standing) (last : Word) (first : ℕ) (block : BlockPart) → words_of_block verdict ≡ Word.Block ∷ last ∷ [] →
+pub behind_block : (verdict : Verdict) (before : Standing) (last : Word) (first : ℕ) (block : BlockPart) → words_of_block verdict ≡ Word.Block ∷ last ∷ [] →
     BeforeBlocks verdict before last first →
     BeforeBlocks verdict (advance before (line_with Word.Block (pos (suc first) ∷ block.times ∷ block.y))) last (suc first)
 behind_block verdict before last first block words h = record {

@@ -1,5 +1,5 @@
 -- What a writer adds, piece by piece.
-use Rattle.std.proofs.Common.{◌≡◌, ◌∷◌, ◌++◌, ◌∙◌, [], ℕ, ◌+◌, ◌<◌, ℤ, pos, List, ap, sym, refl, subst, append_assoc, append-nil, get_or, length, take, arith, ◌^◌, Result, Ok, Err, OnOk}
+use Rattle.std.proofs.Common.{◌≡◌, ◌∷◌, ◌++◌, ◌∙◌, [], ℕ, ◌+◌, ◌<◌, ℤ, pos, List, ap, sym, subst, append_assoc, append-nil, get_or, length, take, arith, ◌^◌, Result, Ok, Err, OnOk}
 use Rattle.std.specs.List.{AllByRecursion}
 use Rattle.std.proofs.lemmas.Grind.{flat_map-append}
 use Rattle.std.proofs.lemmas.List.{length-take-le, take_more}

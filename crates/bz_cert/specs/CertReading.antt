@@ -1,16 +1,15 @@
 -- What the parts of a certificate's text say, and how a part fails.
-use Rattle.std.specs.Prelude.{ℕ, suc, ℤ, pos, ◌≡◌, ◌≢◌, ◌+◌, ◌<◌, ◌≤◌, ◌^◌, ◌⊎◌, List, [], ◌∷◌, ◌++◌, length, Option, Some, None, Result, Ok, Err, nat_lt}
+use Rattle.std.specs.Prelude.{ℕ, suc, ℤ, pos, ◌≡◌, ◌≢◌, ◌+◌, ◌<◌, ◌^◌, ◌⊎◌, List, [], ◌∷◌, ◌++◌, length, Some, Result, Ok, Err, nat_lt}
 use Rattle.std.specs.Fmt.{signed_decimal}
 use Rattle.std.specs.List.{AllByRecursion, flat_map}
 use Rattle.bz_algebra.specs.Numbers.{IsNarrow}
 use Rattle.bz_algebra.specs.Sums.{AllBelow}
-use Rattle.bz_num.specs.Row.{IsSparse}
 use Rattle.bz_cert.specs.declared.faults.CertKind.{CertKind}
 use Rattle.bz_cert.specs.declared.faults.CertStop.{CertStop}
 use Rattle.bz_cert.specs.declared.records.Verdict.{Verdict}
 use Rattle.bz_cert.specs.declared.words.Word.{Word}
-use Rattle.bz_cert.specs.CertText.{CertLine, laid_out, line_with, spelled, sparse_numbers, word_bytes, line_bytes}
-use Rattle.bz_cert.specs.CertFaults.{AreEnough, AreInOrder, BeginsWith, BeginsWithLine, BreaksTree, FailsAtOnce, IsIn, IsIndex, IsWhole, IsPossible, IsTooMany, Passes, Standing, blocks_in, cuts_in, splits_in, leaves_in, told_in, indexes_of, words_behind}
+use Rattle.bz_cert.specs.CertText.{CertLine, laid_out, spelled, sparse_numbers, word_bytes, line_bytes}
+use Rattle.bz_cert.specs.CertFaults.{AreEnough, AreInOrder, BeginsWith, BeginsWithLine, BreaksTree, FailsAtOnce, IsIn, IsIndex, IsWhole, IsTooMany, Passes, Standing, blocks_in, cuts_in, splits_in, leaves_in, told_in, indexes_of, words_behind}
 
 -- how a stop fails, where it is not for want of memory
 abbrev pub StopsAs : (ℕ → CertKind → Type 0) → CertStop → Type 0

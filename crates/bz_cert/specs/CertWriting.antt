@@ -1,5 +1,5 @@
 -- What a writer adds to the bytes before it, and what the types of a certificate say of its indexes.
-use Rattle.std.specs.Prelude.{ℕ, ℤ, pos, ◌≡◌, ◌<◌, ◌^◌, List, [], ◌∷◌, ◌++◌, length, None, Some}
+use Rattle.std.specs.Prelude.{ℕ, ℤ, pos, ◌≡◌, ◌<◌, ◌^◌, List, [], ◌∷◌, ◌++◌, length}
 use Rattle.std.specs.List.{AllByRecursion, flat_map}
 use Rattle.bz_algebra.specs.Sums.{AllBelow}
 use Rattle.bz_num.specs.Row.{IsSparse}

@@ -1,9 +1,9 @@
 //! What stands behind the two first lines of a certificate's text, by the verdict.
-ghost use Rattle.std.specs.Prelude.{ℕ, ℤ, List, [], ◌≡◌, ◌∷◌, ◌++◌, ◌+◌, ◌<◌, ◌≤◌, ◌^◌, pos, map, length, Some};
+ghost use Rattle.std.specs.Prelude.{[], ◌≡◌, ◌∷◌, Some};
 ghost use Rattle.bz_cert.specs.declared.records.Verdict.{Verdict};
 ghost use Rattle.bz_cert.specs.declared.words.Word.{Word};
 ghost use Rattle.bz_cert.specs.CertFaults.{FailsAtOnce, Standing};
-ghost use Rattle.bz_cert.specs.CertPhases.{AwaitsBlocks, AwaitsBound, FailsAtBlocks, FailsAtBound, FailsBody, ReadsBlocksTo, ReadsBody, ReadsBound};
+ghost use Rattle.bz_cert.specs.CertPhases.{FailsAtBlocks, FailsAtBound, FailsBody, ReadsBlocksTo, ReadsBody, ReadsBound};
 ghost use Rattle.bz_cert.specs.CertReading.{Answers};
 ghost use Rattle.bz_cert.specs.CertText.{line_with};
 

@@ -1,5 +1,5 @@
 //! The two first lines of a certificate's text.
-ghost use Rattle.std.specs.Prelude.{ℕ, List, [], ◌≡◌, ◌≢◌, ◌∷◌, ◌++◌, ◌+◌, ◌<◌, ◌-◌, ◌^◌, IfNone, IfSome, length};
+ghost use Rattle.std.specs.Prelude.{[], ◌≡◌, ◌≢◌, ◌∷◌, ◌++◌, ◌+◌, ◌<◌, ◌-◌, ◌^◌, IfNone, IfSome, length};
 ghost use Rattle.bz_cert.specs.declared.records.Verdict.{Verdict};
 ghost use Rattle.bz_cert.specs.CertFaults.{IsCertFault};
 ghost use Rattle.bz_cert.specs.CertReading.{Answers};

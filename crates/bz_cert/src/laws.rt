@@ -2,8 +2,7 @@
 ghost use Rattle.std.specs.Prelude.{ℕ, List, Result, Ok, Err, ◌≡◌, ◌⊎◌};
 ghost use Rattle.bz_cert.specs.CertFaults.{IsCertFault};
 ghost use Rattle.bz_cert.specs.CertReading.{Answers};
-ghost use Rattle.bz_cert.specs.CertText.{IsCertText, IsWritable, cert_text};
-ghost use Rattle.bz_cert.specs.Shapes.{IsShaped};
+ghost use Rattle.bz_cert.specs.CertText.{IsCertText};
 ghost use Rattle.bz_cert.specs.declared.faults.CertKind.{CertKind};
 ghost use Rattle.bz_cert.specs.declared.faults.CertStop.{CertStop};
 ghost use Rattle.bz_cert.specs.declared.records.Certificate.{Certificate};
@@ -12,6 +11,11 @@ ghost use Rattle.bz_cert.specs.declared.records.Certificate.{Certificate};
 pub fn text_has_one_certificate()
     ensures certificate { (text : List ℕ) (c d : Certificate) → IsCertText text c → IsCertText text d → c ≡ d }
     ensures text { (text other : List ℕ) (c : Certificate) → IsCertText text c → IsCertText other c → text ≡ other }
+{}
+
+/// A text is that of a certificate, or it has a fault. Nothing runs.
+pub fn each_text_has_an_outcome()
+    ensures { (text : List ℕ) → ((c : Certificate) × IsCertText text c) ⊎ ((number : ℕ) × (kind : CertKind) × IsCertFault text number kind) }
 {}
 
 /// A certificate's text has no fault. Nothing runs.
@@ -24,8 +28,8 @@ pub fn text_has_one_fault()
     ensures { (text : List ℕ) (n m : ℕ) (j k : CertKind) → IsCertFault text n j → IsCertFault text m k → (n ≡ m) × (j ≡ k) }
 {}
 
-/// What `read_cert` answers on the text that `write_cert` gives is the certificate itself, or that there was no memory.
-/// Nothing runs.
+/// What `read_cert` answers on the text of a certificate, as `write_cert` gives it, is the certificate itself, or that
+/// there was no memory. Nothing runs.
 pub fn what_is_written_is_read()
-    ensures { (c : Certificate) (r : Result Certificate CertStop) → IsShaped c → IsWritable c → Answers (IsCertText (cert_text c)) (IsCertFault (cert_text c)) r → (r ≡ Ok c) ⊎ (r ≡ Err CertStop.OutOfMemory) }
+    ensures { (text : List ℕ) (c : Certificate) (r : Result Certificate CertStop) → IsCertText text c → Answers (IsCertText text) (IsCertFault text) r → (r ≡ Ok c) ⊎ (r ≡ Err CertStop.OutOfMemory) }
 {}

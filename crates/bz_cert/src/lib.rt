@@ -23,7 +23,8 @@ mod writing_tests;
 
 pub use faults::{CertFault, CertKind, CertStop};
 pub use laws::{
-    text_has_one_certificate, text_has_one_fault, texts_have_no_fault, what_is_written_is_read,
+    each_text_has_an_outcome, text_has_one_certificate, text_has_one_fault, texts_have_no_fault,
+    what_is_written_is_read,
 };
 pub use reader::read_cert;
 pub use records::{Certificate, Verdict};

@@ -1,10 +1,5 @@
 //! Lines of blocks, of cuts and of a tree.
-ghost use Rattle.std.specs.Prelude.{ℕ, ℤ, List, [], ◌≡◌, ◌∷◌, ◌++◌, ◌+◌, ◌<◌, ◌≤◌, ◌^◌, pos, map, length};
-ghost use Rattle.std.specs.List.{AllByRecursion};
-ghost use Rattle.bz_model.specs.declared.BlockPart.{BlockPart};
-ghost use Rattle.bz_cut.specs.declared.Cut.{Cut};
-ghost use Rattle.bz_tree.specs.declared.TreeNode.{TreeNode};
-ghost use Rattle.bz_cert.specs.declared.words.Word.{Word};
+ghost use Rattle.std.specs.Prelude.{◌≡◌, ◌<◌, ◌≤◌};
 ghost use Rattle.bz_cert.specs.CertPhases.{ReadsBlocks, ReadsCuts, ReadsTree, FailsAtBlocks, FailsAtCuts, FailsAtTree, trees_behind as count_behind};
 ghost use Rattle.bz_cert.specs.CertReading.{Answers};
 

@@ -1,5 +1,5 @@
 //! What the numbers of a line are: the parts of a certificate.
-ghost use Rattle.std.specs.Prelude.{ℕ, ℤ, List, [], ◌≡◌, ◌∷◌, ◌+◌, ◌≤◌, ◌⊎◌, suc, pos, take};
+ghost use Rattle.std.specs.Prelude.{ℤ, List, [], ◌≡◌, ◌∷◌, ◌+◌, ◌≤◌, ◌⊎◌, suc, pos};
 ghost use Rattle.std.specs.List.{AllByRecursion};
 ghost use Rattle.bz_cert.specs.CertFaults.{IsIndex, Standing, indexes_of};
 ghost use Rattle.bz_cert.specs.CertReading.{Answers, AreNumbersOf, NumbersFail, Only};

@@ -1,14 +1,12 @@
 //! Single lines of a certificate's text.
-ghost use Rattle.std.specs.Prelude.{ℕ, ℤ, List, [], ◌≡◌, ◌∷◌, ◌++◌, ◌+◌, ◌-◌, ◌<◌, ◌≤◌, ◌^◌, suc, pos, length};
+ghost use Rattle.std.specs.Prelude.{[], ◌∷◌, ◌≤◌, pos};
 ghost use Rattle.bz_cert.specs.declared.words.Word.{Word};
 ghost use Rattle.bz_cert.specs.BlockLines.{BlockLineIs};
 ghost use Rattle.bz_cert.specs.CertReading.{Answers, FailsAtBlock, FailsAtEnd, FailsAtNode, FailsAwaiting, ReadsLine};
 ghost use Rattle.bz_cert.specs.CertText.{IsWritableCut, IsWritableNode, cut_line, line_with, node_line};
 
 use crate::faults::{CertKind, CertStop, fault};
-use crate::line_parts::{
-    block_of, count_of, cut_of, master_of, node_of, nothing_of, numbers_of, value_of,
-};
+use crate::line_parts::{block_of, count_of, cut_of, master_of, node_of, nothing_of, numbers_of};
 use crate::places::{Place, next_line, next_line_of, next_place, next_word};
 use crate::words::Word;
 use bz_cut::Cut;

@@ -1,5 +1,5 @@
 //! Lines at a place of a text.
-ghost use Rattle.std.specs.Prelude.{ℕ, ℤ, List, [], ◌≡◌, ◌↔◌, ◌∷◌, ◌++◌, ◌+◌, ◌-◌, ◌<◌, ◌≤◌, ◌^◌, suc, length, IfNone, IfSome, IsTrue};
+ghost use Rattle.std.specs.Prelude.{[], ◌≡◌, ◌↔◌, ◌∷◌, ◌+◌, ◌-◌, ◌<◌, ◌≤◌, ◌^◌, length, IfNone, IfSome, IsTrue};
 ghost use Rattle.bz_cert.specs.declared.faults.CertKind.{CertKind};
 ghost use Rattle.bz_cert.specs.declared.words.Word.{Word};
 ghost use Rattle.bz_cert.specs.CertFaults.{BeginsWith, IsIn};
@@ -8,7 +8,7 @@ ghost use Rattle.bz_cert.specs.CertText.{line_with, word_bytes};
 
 use crate::faults::{CertKind, CertStop, fault};
 use crate::line_parts::numbers_of;
-use crate::spelling::{cut_at, text_behind};
+use crate::spelling::cut_at;
 use crate::words::{Word, word_of};
 use std::alloc::Global;
 

@@ -1,5 +1,5 @@
 //! Bytes up to a place, and numbers behind blanks.
-ghost use Rattle.std.specs.Prelude.{ℕ, ℤ, ◌≡◌, ◌≢◌, ◌==◌, IfNone, IfSome, IsTrue, ◌↔◌, List, Some, ◌++◌, ◌<◌, ◌≤◌, length};
+ghost use Rattle.std.specs.Prelude.{ℕ, ℤ, ◌≡◌, ◌≢◌, ◌==◌, IfNone, IfSome, IsTrue, ◌↔◌, List, Some, ◌++◌, ◌≤◌, length};
 ghost use Rattle.std.specs.List.{AllByRecursion, position_or_len};
 ghost use Rattle.bz_cert.specs.declared.faults.CertKind.{CertKind};
 ghost use Rattle.bz_cert.specs.CertFaults.{BeginsWith};

@@ -1,7 +1,7 @@
 //! Worked texts of certificates, and what is wrong with other ones.
 use crate::faults::{CertFault, CertKind, CertStop};
 use crate::reader::read_cert;
-use crate::records::Verdict;
+use crate::records::{Certificate, Verdict};
 use bz_tree::TreeNode;
 use std::alloc::{AllocError, Global};
 use std::test::Fail;
@@ -141,86 +141,85 @@ fn a_short_text_has_its_first_fault(rt: HostRuntime) {
     }
 }
 
+/// The certificate of a text.
+fn read(alloc: Global, text: &[u8]) -> Result<Certificate, Fail> {
+    if text.len() >= 4294967295 {
+        return Err("the text is too long".into());
+    }
+    Ok(read_cert(alloc, text).ok().ok_or("it is refused")?)
+}
+
 #[test]
-fn the_worked_certificates_are_read(rt: HostRuntime) -> Result<(), Fail> {
+fn the_point_of_a_worked_certificate_is_read(rt: HostRuntime) -> Result<(), Fail> {
     let text = text_with(rt.alloc(), 12, b"end\n")?;
     assert_eq!(rt; text.len(), 169);
-    if text.len() >= 4294967295 {
-        return Ok(());
-    }
-    match read_cert(rt.alloc(), text.as_slice()) {
-        Ok(c) => {
-            assert!(rt; c.verdict == Verdict::Optimal);
-            assert_eq!(rt; c.value, 2);
-            if let Some(parts) = &c.parts {
-                assert_eq!(rt; parts.master.den, 1);
-                assert_eq!(rt; parts.master.x.as_slice(), [1].as_slice());
-                assert_eq!(rt; parts.master.eta.as_slice(), [0].as_slice());
-                assert_eq!(rt; parts.blocks.as_slice().len(), 1);
-            } else {
-                assert!(rt; false);
-            }
-            if let [first, second] = c.cuts.as_slice() {
-                assert_eq!(rt;
-                    (first.block, first.p0, first.beta, first.gcd),
-                    (1, 1, 0, 1)
-                );
-                assert_eq!(rt; first.mu.as_slice(), [(1, 3)].as_slice());
-                assert_eq!(rt; second.alpha.as_slice(), [(0, -6)].as_slice());
-                assert_eq!(rt; second.beta, -3);
-            } else {
-                assert!(rt; false);
-            }
-            if let [
-                TreeNode::Split {
-                    position,
-                    left,
-                    right,
-                },
-                TreeNode::Leaf(leaf),
-                _,
-            ] = c.tree.as_slice()
-            {
-                assert_eq!(rt; (*position, *left, *right), (0, 0, 1));
-                assert_eq!(rt; (leaf.delta, leaf.bound), (1, 3));
-                assert_eq!(rt; leaf.lambda.as_slice(), [(0, 4), (3, 1)].as_slice());
-            } else {
-                assert!(rt; false);
-            }
-        }
-        Err(_) => assert!(rt; false),
-    }
+    let certificate = read(rt.alloc(), text.as_slice())?;
+    assert!(rt; certificate.verdict == Verdict::Optimal);
+    assert_eq!(rt; certificate.value, 2);
+    let parts = certificate.parts.as_ref().ok_or("it has no parts")?;
+    assert_eq!(rt; parts.master.den, 1);
+    assert_eq!(rt; parts.master.x.as_slice(), [1].as_slice());
+    assert_eq!(rt; parts.master.eta.as_slice(), [0].as_slice());
+    assert_eq!(rt; parts.blocks.as_slice().len(), 1);
     Ok(())
 }
 
 #[test]
-fn certificates_of_each_verdict_are_read(rt: HostRuntime) {
-    let infeasible = b"bzcert 1\nverdict infeasible\ncuts 0\nleaf 0 1 2 0 1 1 1\nend\n";
-    match read_cert(rt.alloc(), infeasible) {
-        Ok(c) => {
-            assert!(rt; c.verdict == Verdict::Infeasible);
-            assert!(rt; c.parts.is_none());
-            assert_eq!(rt; c.tree.as_slice().len(), 1);
-        }
-        Err(_) => assert!(rt; false),
-    }
-    let unbounded = b"bzcert 1\nverdict unbounded\nmaster 1 1\nblock 1 1 0\nray 0 1\nend\n";
-    match read_cert(rt.alloc(), unbounded) {
-        Ok(c) => {
-            assert!(rt; c.verdict == Verdict::Unbounded);
-            assert_eq!(rt; c.ray.as_slice(), [0, 1].as_slice());
-            assert_eq!(rt; c.tree.as_slice().len(), 0);
-        }
-        Err(_) => assert!(rt; false),
-    }
-    let empty = b"bzcert 1\nverdict optimal\nmaster 1\neta\nvalue 0\ncuts 0\nleaf 1 0 0\nend\n";
-    match read_cert(rt.alloc(), empty) {
-        Ok(c) => {
-            assert!(rt; c.verdict == Verdict::Optimal);
-            assert_eq!(rt; c.cuts.as_slice().len(), 0);
-        }
-        Err(_) => assert!(rt; false),
-    }
+fn the_cuts_of_a_worked_certificate_are_read(rt: HostRuntime) -> Result<(), Fail> {
+    let text = text_with(rt.alloc(), 12, b"end\n")?;
+    let certificate = read(rt.alloc(), text.as_slice())?;
+    let [first, second] = certificate.cuts.as_slice() else {
+        return Err("it has not two cuts".into());
+    };
+    assert_eq!(rt;
+        (first.block, first.p0, first.beta, first.gcd),
+        (1, 1, 0, 1)
+    );
+    assert_eq!(rt; first.mu.as_slice(), [(1, 3)].as_slice());
+    assert_eq!(rt; second.alpha.as_slice(), [(0, -6)].as_slice());
+    assert_eq!(rt; second.beta, -3);
+    Ok(())
+}
+
+#[test]
+fn the_tree_of_a_worked_certificate_is_read(rt: HostRuntime) -> Result<(), Fail> {
+    let text = text_with(rt.alloc(), 12, b"end\n")?;
+    let certificate = read(rt.alloc(), text.as_slice())?;
+    let [
+        TreeNode::Split {
+            position,
+            left,
+            right,
+        },
+        TreeNode::Leaf(leaf),
+        _,
+    ] = certificate.tree.as_slice()
+    else {
+        return Err("it has not a split and two leaves".into());
+    };
+    assert_eq!(rt; (*position, *left, *right), (0, 0, 1));
+    assert_eq!(rt; (leaf.delta, leaf.bound), (1, 3));
+    assert_eq!(rt; leaf.lambda.as_slice(), [(0, 4), (3, 1)].as_slice());
+    Ok(())
+}
+
+#[test]
+fn certificates_of_each_verdict_are_read(rt: HostRuntime) -> Result<(), Fail> {
+    let text = b"bzcert 1\nverdict infeasible\ncuts 0\nleaf 0 1 2 0 1 1 1\nend\n";
+    let infeasible = read(rt.alloc(), text)?;
+    assert!(rt; infeasible.verdict == Verdict::Infeasible);
+    assert!(rt; infeasible.parts.is_none());
+    assert_eq!(rt; infeasible.tree.as_slice().len(), 1);
+    let text = b"bzcert 1\nverdict unbounded\nmaster 1 1\nblock 1 1 0\nray 0 1\nend\n";
+    let unbounded = read(rt.alloc(), text)?;
+    assert!(rt; unbounded.verdict == Verdict::Unbounded);
+    assert_eq!(rt; unbounded.ray.as_slice(), [0, 1].as_slice());
+    assert_eq!(rt; unbounded.tree.as_slice().len(), 0);
+    let text = b"bzcert 1\nverdict optimal\nmaster 1\neta\nvalue 0\ncuts 0\nleaf 1 0 0\nend\n";
+    let empty = read(rt.alloc(), text)?;
+    assert!(rt; empty.verdict == Verdict::Optimal);
+    assert_eq!(rt; empty.cuts.as_slice().len(), 0);
+    Ok(())
 }
 
 /// The text of a tree in one branch: so many splits, and then so many leaves.
@@ -239,12 +238,8 @@ fn branch(alloc: Global, splits: u32, leaves: u32) -> Result<Vec<u8>, AllocError
 #[test]
 fn a_tree_has_at_most_65535_nodes(rt: HostRuntime) -> Result<(), Fail> {
     let most = branch(rt.alloc(), 32767, 32768)?;
-    if most.len() < 4294967295 {
-        match read_cert(rt.alloc(), most.as_slice()) {
-            Ok(c) => assert_eq!(rt; c.tree.as_slice().len(), 65535),
-            Err(_) => assert!(rt; false),
-        }
-    }
+    let certificate = read(rt.alloc(), most.as_slice())?;
+    assert_eq!(rt; certificate.tree.as_slice().len(), 65535);
     let more = branch(rt.alloc(), 65536, 0)?;
     assert!(rt; has_fault(rt.alloc(), more.as_slice(), 65539, CertKind::Limit));
     let partial = branch(rt.alloc(), 65535, 0)?;

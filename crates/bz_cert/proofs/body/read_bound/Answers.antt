@@ -1,6 +1,4 @@
-use Rattle.std.proofs.Common.{◌≡◌, ◌∷◌, ◌++◌, ◌∙◌, [], ℕ, List, length, map, rules, arith, ap, inl, inr, refl, subst, sym, append-nil}
-use Rattle.bz_cert.specs.declared.faults.CertKind.{CertKind}
-use Rattle.bz_cert.specs.declared.words.Word.{Word}
+use Rattle.std.proofs.Common.{◌++◌, ◌∙◌, arith, ap, inl, inr, refl, append-nil}
 use Rattle.bz_cert.specs.CertText.{bound_lines, laid_out}
 use Rattle.bz_cert.proofs.Bounds.{awaits_cuts, awaits_first_node, bound_ends, count_fine, count_read, cuts_read, end_read, others_break, tree_read}
 use Rattle.bz_cert.proofs.Phases.{fails_later, fails_now}

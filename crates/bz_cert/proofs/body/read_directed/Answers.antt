@@ -1,4 +1,4 @@
-use Rattle.std.proofs.Common.{◌≡◌, ◌∷◌, ◌+◌, ◌<◌, ◌∙◌, [], ℕ, ℤ, List, length, rules, arith, ap, inl, inr, refl, subst, sym}
+use Rattle.std.proofs.Common.{arith}
 use Rattle.bz_cert.specs.declared.faults.CertKind.{CertKind}
 use Rattle.bz_cert.specs.declared.words.Word.{Word}
 use Rattle.bz_cert.proofs.Bounds.{blocks_open, blocks_to}

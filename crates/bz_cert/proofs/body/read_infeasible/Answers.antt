@@ -1,9 +1,6 @@
-use Rattle.std.proofs.Common.{◌≡◌, ◌∷◌, ◌∙◌, [], ℤ, pos, List, Some, None, rules, refl, inl, FitsSigned, to_z-of_z}
-use Rattle.std.specs.Int.{w128}
+use Rattle.std.proofs.Common.{◌≡◌, ◌∙◌, []}
 use Rattle.bz_cert.specs.declared.records.Verdict.{Verdict}
-use Rattle.bz_cert.specs.declared.words.Word.{Word}
-use Rattle.bz_cert.specs.CertPhases.{ReadsBody, start}
-use Rattle.bz_cert.proofs.Phases.{fails_later, fails_now}
+use Rattle.bz_cert.specs.CertPhases.{start}
 use Rattle.bz_cert.proofs.Refusals.{handed_on}
 use Rattle.bz_cert.proofs.Bodies.{infeasible_body, infeasible_bound}
 use Rattle.bz_cert.proofs.body.read_infeasible.Goals as goal

@@ -1,9 +1,8 @@
-use Rattle.std.proofs.Common.{◌≡◌, ◌∷◌, ◌∙◌, [], ℤ, pos, List, Some, None, rules, refl, inl, FitsSigned, to_z-of_z}
+use Rattle.std.proofs.Common.{◌≡◌, ◌∙◌, [], rules, refl, inl, FitsSigned, to_z-of_z}
 use Rattle.std.specs.Int.{w128}
 use Rattle.bz_cert.specs.declared.records.Verdict.{Verdict}
-use Rattle.bz_cert.specs.declared.words.Word.{Word}
 use Rattle.bz_cert.specs.CertReading.{advance_all}
-use Rattle.bz_cert.specs.CertPhases.{ReadsBody, start}
+use Rattle.bz_cert.specs.CertPhases.{start}
 use Rattle.bz_cert.proofs.Phases.{fails_later, fails_now}
 use Rattle.bz_cert.proofs.Refusals.{handed_on}
 use Rattle.bz_cert.proofs.Bodies.{end_of_ray, master_fine, no_other, point_read, ray_ends, ray_read, unbounded_blocks, unbounded_body, unbounded_end, unbounded_lines, unbounded_master}

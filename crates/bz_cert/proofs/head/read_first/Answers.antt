@@ -1,6 +1,5 @@
-use Rattle.std.proofs.Common.{◌≡◌, rules, refl, IsTrue}
+use Rattle.std.proofs.Common.{rules, refl, IsTrue}
 use Rattle.bz_cert.specs.CertFaults.{IsCertFault}
-use Rattle.bz_cert.specs.CertText.{first_line}
 use Rattle.bz_cert.proofs.Failing.{first_line_is}
 use Rattle.bz_cert.proofs.Heads.{first_alone, first_joined, first_open, nothing_left}
 use Rattle.bz_cert.proofs.Refusals.{faulted}

@@ -1,5 +1,5 @@
-use Rattle.std.proofs.Common.{◌≡◌, rules, refl, length, ap}
-use Rattle.bz_cert.specs.CertFaults.{BeginsWithLine, IsCertFault}
+use Rattle.std.proofs.Common.{refl}
+use Rattle.bz_cert.specs.CertFaults.{IsCertFault}
 use Rattle.bz_cert.proofs.Heads.{nothing_left, second_joined, second_open}
 use Rattle.bz_cert.proofs.Refusals.{faulted}
 use Rattle.bz_cert.proofs.head.read_head.Goals as goal

@@ -1,5 +1,4 @@
-use Rattle.std.proofs.Common.{◌≡◌, ◌∷◌, ◌+◌, ◌∙◌, ℕ, pos, length, rules, arith, subst, length-append, []}
-use Rattle.bz_cert.specs.declared.faults.CertKind.{CertKind}
+use Rattle.std.proofs.Common.{◌≡◌, ◌∷◌, ◌+◌, pos, length, rules, arith, subst, length-append, []}
 use Rattle.bz_cert.specs.declared.words.Word.{Word}
 use Rattle.bz_cert.specs.BlockLines.{BlockLineIs}
 use Rattle.bz_cert.specs.CertReading.{ReadsLine}

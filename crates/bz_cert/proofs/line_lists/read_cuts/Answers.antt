@@ -1,6 +1,4 @@
-use Rattle.std.proofs.Common.{◌≡◌, ◌∷◌, ◌+◌, ◌<◌, ◌∙◌, ℕ, pos, length, rules, arith, subst, sym, length-append, []}
-use Rattle.bz_cert.specs.CertPhases.{CutsTold}
-use Rattle.bz_cert.specs.CertReading.{advance_all}
+use Rattle.std.proofs.Common.{◌≡◌, ◌∷◌, ◌<◌, length, rules, arith, length-append, []}
 use Rattle.bz_cert.specs.CertText.{IsWritableCut}
 use Rattle.bz_cert.proofs.ListLemmas.{all_joined}
 use Rattle.bz_cert.proofs.Phases.{fails_later, fails_now}

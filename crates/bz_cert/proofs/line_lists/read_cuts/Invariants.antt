@@ -1,9 +1,8 @@
 -- The lines so far are those of the cuts so far.
-use Rattle.std.proofs.Common.{◌≡◌, ◌≢◌, ◌+◌, Bool, Some, length, map}
+use Rattle.std.proofs.Common.{◌≡◌, length, map}
 use Rattle.std.specs.List.{AllByRecursion}
 use Rattle.bz_cert.specs.declared.records.Verdict.{Verdict}
-use Rattle.bz_cert.specs.declared.words.Word.{Word}
-use Rattle.bz_cert.specs.CertFaults.{Standing, words_behind, words_of_cuts}
+use Rattle.bz_cert.specs.CertFaults.{Standing}
 use Rattle.bz_cert.specs.CertPhases.{AwaitsCuts, CutsTold}
 use Rattle.bz_cert.specs.CertReading.{Reads, advance_all}
 use Rattle.bz_cert.specs.CertText.{IsWritableCut, cut_line}

@@ -1,9 +1,5 @@
-use Rattle.std.proofs.Common.{◌≡◌, ◌∷◌, ◌++◌, ◌+◌, ◌<◌, ◌≤◌, ◌∙◌, ℕ, pos, List, length, rules, arith, ap, refl, subst, sym, length-append, append-nil, add-zero, []}
-use Rattle.std.specs.List.{flat_map}
+use Rattle.std.proofs.Common.{◌≡◌, ◌∷◌, ◌++◌, ◌<◌, ◌≤◌, ◌∙◌, length, rules, arith, ap, sym, length-append, append-nil, []}
 use Rattle.bz_tree.specs.Trees.{Tree, preorder}
-use Rattle.bz_tree.specs.declared.TreeNode.{TreeNode}
-use Rattle.bz_cert.specs.CertPhases.{MakesTree, NodesTold}
-use Rattle.bz_cert.specs.CertReading.{advance_all}
 use Rattle.bz_cert.specs.CertText.{IsWritableNode}
 use Rattle.bz_cert.proofs.ListLemmas.{all_joined}
 use Rattle.bz_cert.proofs.Phases.{fails_later, fails_now}

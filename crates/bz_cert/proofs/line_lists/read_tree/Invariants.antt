@@ -1,7 +1,6 @@
 -- The lines so far are those of the nodes so far, and so many trees are still to come, which make the nodes one tree.
-use Rattle.std.proofs.Common.{◌≡◌, ◌++◌, ◌+◌, ◌≤◌, List, length, map}
-use Rattle.std.specs.List.{AllByRecursion, flat_map}
-use Rattle.bz_tree.specs.Trees.{Tree, preorder}
+use Rattle.std.proofs.Common.{◌+◌, ◌≤◌, length, map}
+use Rattle.std.specs.List.{AllByRecursion}
 use Rattle.bz_cert.specs.declared.records.Verdict.{Verdict}
 use Rattle.bz_cert.specs.CertFaults.{Standing}
 use Rattle.bz_cert.specs.CertPhases.{AwaitsTree, MakesTree, NodesTold}

@@ -1,4 +1,4 @@
-use Rattle.std.proofs.Common.{ℕ, ℤ, pos, List, Bool, true, false, not, ◌≡◌, IsTrue, refl, subst, sym, ◌∙◌, rules, get_or, inl, inr, FitsSigned, to_z-of_z, ◌-◌, take, drop, length}
+use Rattle.std.proofs.Common.{pos, IsTrue, refl, subst, sym, ◌∙◌, rules, get_or, inl, inr, FitsSigned, to_z-of_z, ◌-◌, take, drop, length}
 use Rattle.std.specs.Int.{w128}
 use Rattle.bz_num.specs.Row.{IsSparse}
 use Rattle.bz_cert.specs.CertReading.{AreTwoLists}

@@ -1,4 +1,4 @@
-use Rattle.std.proofs.Common.{ℕ, ℤ, pos, List, [], Bool, true, false, not, ◌≡◌, IsTrue, refl, subst, sym, ◌∙◌, rules, get_or, inl, inr, arith}
+use Rattle.std.proofs.Common.{[], IsTrue, refl, subst, sym, rules, inl, inr, arith}
 use Rattle.bz_num.specs.Row.{IsSparse}
 use Rattle.bz_cert.proofs.ListIndexes.{list_of_leaf, of_leaf, sparse_of_leaf}
 use Rattle.bz_cert.proofs.SparseLists.{empty_now, nothing_behind, not_empty}

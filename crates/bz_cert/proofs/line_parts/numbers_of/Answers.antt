@@ -1,4 +1,4 @@
-use Rattle.std.proofs.Common.{ℤ, List, false, ◌≡◌, IsTrue, refl, subst, sym, ◌∙◌}
+use Rattle.std.proofs.Common.{ℤ, List, ◌≡◌, IsTrue, refl, subst, sym, ◌∙◌}
 use Rattle.std.specs.List.{AllByRecursion}
 use Rattle.bz_cert.specs.CertFaults.{IsIndex, indexes_of}
 use Rattle.bz_cert.proofs.NumberTexts.{same_spelling}

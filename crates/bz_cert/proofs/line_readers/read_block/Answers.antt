@@ -1,10 +1,10 @@
-use Rattle.std.proofs.Common.{◌≡◌, ◌≢◌, ◌⊎◌, ◌∷◌, ◌++◌, ◌∙◌, [], ℕ, suc, ◌+◌, ◌<◌, ◌≤◌, ℤ, pos, List, length, arith, rules, ap, inl, inr, refl, subst, sym, IsTrue, true, false}
+use Rattle.std.proofs.Common.{◌≡◌, ◌∷◌, ◌∙◌, [], ℕ, suc, ◌+◌, ℤ, pos, List, length, arith, rules, ap, inl, refl, subst, sym}
 use Rattle.bz_cert.specs.declared.faults.CertKind.{CertKind}
 use Rattle.bz_cert.specs.declared.words.Word.{Word}
 use Rattle.bz_cert.specs.CertFaults.{number_at}
-use Rattle.bz_cert.specs.CertReading.{BeginsWithCertLine, BeginsWithWord, NumbersFail, ReadsLine, tree_words}
-use Rattle.bz_cert.specs.CertText.{CertLine, line_with, node_line}
-use Rattle.bz_cert.proofs.Refusals.{answers_also, faulted, handed_on}
+use Rattle.bz_cert.specs.CertReading.{BeginsWithCertLine, NumbersFail}
+use Rattle.bz_cert.specs.CertText.{line_with}
+use Rattle.bz_cert.proofs.Refusals.{handed_on}
 use Rattle.bz_cert.proofs.Failing.{failing_is, lacks_feed, numbers_fail, passes}
 use Rattle.bz_cert.proofs.line_readers.read_block.Goals as goal
 

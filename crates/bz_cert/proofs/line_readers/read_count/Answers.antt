@@ -1,4 +1,4 @@
-use Rattle.std.proofs.Common.{◌≡◌, ◌≢◌, ◌∷◌, ◌∙◌, [], ℕ, ◌+◌, ◌<◌, ◌≤◌, ℤ, pos, List, length, arith, rules, ap, inl, inr, refl, subst, sym, IsTrue, true, false}
+use Rattle.std.proofs.Common.{◌≡◌, ◌∷◌, ◌∙◌, [], pos, length, arith, ap, inl, refl, sym}
 use Rattle.bz_cert.specs.declared.words.Word.{Word}
 use Rattle.bz_cert.proofs.Failing.{feed_refused, few_cuts, numbers_refused}
 use Rattle.bz_cert.proofs.line_readers.read_count.Goals as goal

@@ -1,10 +1,10 @@
-use Rattle.std.proofs.Common.{◌≡◌, ◌≢◌, ◌⊎◌, ◌∷◌, ◌++◌, ◌∙◌, [], ℕ, suc, ◌+◌, ◌<◌, ◌≤◌, ℤ, pos, List, length, arith, rules, ap, inl, inr, refl, subst, sym, IsTrue, true, false}
+use Rattle.std.proofs.Common.{◌≡◌, ◌∷◌, ◌∙◌, [], ℕ, ◌+◌, ℤ, List, length, rules, ap, subst, sym, IsTrue}
 use Rattle.bz_cert.specs.declared.faults.CertKind.{CertKind}
 use Rattle.bz_cert.specs.declared.words.Word.{Word}
 use Rattle.bz_cert.specs.CertFaults.{BreaksTree}
-use Rattle.bz_cert.specs.CertReading.{BeginsWithCertLine, BeginsWithWord, FailsAtEnd, NumbersFail, Only, ReadsLine}
+use Rattle.bz_cert.specs.CertReading.{BeginsWithCertLine, FailsAtEnd, NumbersFail, Only, ReadsLine}
 use Rattle.bz_cert.specs.declared.places.Place.{Place}
-use Rattle.bz_cert.specs.CertText.{CertLine, line_with, node_line}
+use Rattle.bz_cert.specs.CertText.{line_with}
 use Rattle.bz_cert.proofs.Refusals.{answers_also, faulted, handed_on}
 use Rattle.bz_cert.proofs.Failing.{breaks_tree, failing_is, lacks_feed, line_of_numbers, no_numbers, numbers_fail, passes}
 use Rattle.bz_cert.proofs.line_readers.read_end.Goals as goal

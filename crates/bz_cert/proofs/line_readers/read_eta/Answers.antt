@@ -1,4 +1,4 @@
-use Rattle.std.proofs.Common.{◌≡◌, ◌≢◌, ◌∷◌, ◌∙◌, [], ℕ, ◌+◌, ◌<◌, ◌≤◌, ℤ, pos, List, length, arith, rules, ap, inl, inr, refl, subst, sym, IsTrue, true, false}
+use Rattle.std.proofs.Common.{◌∷◌, [], inl, refl}
 use Rattle.bz_cert.specs.declared.words.Word.{Word}
 use Rattle.bz_cert.proofs.Failing.{feed_refused}
 use Rattle.bz_cert.proofs.line_readers.read_eta.Goals as goal

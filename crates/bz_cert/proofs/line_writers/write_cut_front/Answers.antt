@@ -1,6 +1,5 @@
 use Rattle.std.proofs.Common.{[], ◌∷◌, pos, rules, FitsSigned, to_z-of_z}
 use Rattle.std.specs.Int.{w128}
-use Rattle.bz_cert.specs.CertWriting.{AddsNumbers}
 use Rattle.bz_cert.proofs.Written.{numbers_on, ok_also}
 use Rattle.bz_cert.proofs.line_writers.write_cut_front.Goals as goal
 

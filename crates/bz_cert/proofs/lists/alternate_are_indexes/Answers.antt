@@ -1,4 +1,4 @@
-use Rattle.std.proofs.Common.{ℕ, ℤ, pos, List, [], ◌∷◌, ◌≤◌, ◌-◌, ◌↔◌, ◌≡◌, suc, length, take, drop, get_or, arith, rules, ap, sym, subst, ◌∙◌, FitsSigned, to_z-of_z}
+use Rattle.std.proofs.Common.{ℤ, pos, List, [], ◌∷◌, ◌≤◌, ◌-◌, ◌↔◌, ◌≡◌, suc, length, take, drop, get_or, arith, rules, ap, sym, subst, ◌∙◌, FitsSigned, to_z-of_z}
 use Rattle.std.specs.Int.{w128}
 use Rattle.std.proofs.Math.Seq.{take-length}
 use Rattle.std.specs.List.{AllByRecursion}

@@ -1,6 +1,6 @@
-use Rattle.std.proofs.Common.{ap, arith, rules, refl, ◌++◌, length}
-use Rattle.bz_cert.proofs.Refusals.{faulted, handed_on}
-use Rattle.bz_cert.proofs.SparseLists.{list_pairs, pair_numbers}
+use Rattle.std.proofs.Common.{refl, ◌++◌, length}
+use Rattle.bz_cert.proofs.Refusals.{faulted}
+use Rattle.bz_cert.proofs.SparseLists.{pair_numbers}
 use Rattle.bz_cert.proofs.lists.take_list.Goals as goal
 
 pub returns-in_default : goal.returns-in_default

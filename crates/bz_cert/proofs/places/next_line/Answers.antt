@@ -1,7 +1,3 @@
-use Rattle.std.proofs.Common.{◌≡◌, ◌∙◌, ℕ, ◌+◌, refl, subst, sym}
-use Rattle.bz_cert.specs.declared.faults.CertKind.{CertKind}
-use Rattle.bz_cert.specs.CertFaults.{FailsAtOnce}
-use Rattle.bz_cert.specs.CertReading.{FailsAwaiting}
 use Rattle.bz_cert.proofs.Failing.{failing_is, no_numbers}
 use Rattle.bz_cert.proofs.Refusals.{handed_on}
 use Rattle.bz_cert.proofs.places.next_line.Goals as goal
