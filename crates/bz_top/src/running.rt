@@ -1,22 +1,22 @@
 //! The top call.
-ghost use Rattle.std.specs.Prelude.{◌≡◌, ◌≢◌, ◌≤◌, ◌⊎◌, map, IfErr, IfOk, OnErr, OnOk};
+ghost use Rattle.std.specs.Prelude.{◌≡◌, ◌≢◌, ◌≤◌, ◌⊎◌, map, IfErr, IfOk};
 ghost use Rattle.std.specs.String.{string_bytes};
 ghost use Rattle.bz_io.specs.Desk.{IsSame};
-ghost use Rattle.bz_io.specs.Faults.{CountsFault, HasRisen};
-ghost use Rattle.bz_io.specs.Sink.{Takes, TakesPrefix};
+ghost use Rattle.bz_io.specs.Faults.{HasRisen};
+ghost use Rattle.bz_io.specs.Sink.{Takes};
 ghost use Rattle.bz_io.specs.Told.{WhereTold};
 ghost use Rattle.bz_top.specs.Claims.{BreaksOff, BreaksOffAsked, BreaksOffUsage, CountsFiles, EndsSettled, EndsSettledAsked, IsCause, IsOfJob, RefusesAsked, RefusesJob, Shown, ShowsAsked, ShowsOf};
 ghost use Rattle.bz_top.specs.Ends.{status_after as after_put, IsRefused};
 ghost use Rattle.bz_top.specs.Jobs.{IsJobless};
 ghost use Rattle.bz_top.specs.Loads.{EndsDecomposed, IsWhole};
+ghost use Rattle.bz_top.specs.Putting.{Puts};
 ghost use Rattle.bz_top.specs.Refusing.{Refuses};
 ghost use Rattle.bz_top.specs.Texts.{said_text, usage_text};
 
 use crate::check::check_files;
 use crate::job::Job;
-use crate::loading::file_name;
 use crate::parting::split_files;
-use crate::print::{put_holds, put_refusal, put_usage};
+use crate::print::{put_holds, put_out_of_memory, put_refusal, put_usage};
 use crate::put_parts::put_parts;
 use crate::said::Said;
 use crate::status::{Refusal, Status};
@@ -39,8 +39,7 @@ fn status_after(put: Result<(), PutFailed>, status: Status) -> Status
 fn refuse<O: Sink>(out: &mut O, job: &Job, refusal: &Refusal) -> Status
     ensures { Refuses job.now refusal.now (O.taken out.old) (O.taken out.new) (O.faults out.old) (O.faults out.new) result }
 {
-    let put = put_refusal(out, refusal, file_name(job, refusal.file()));
-    status_after(put, refusal.status())
+    status_after(put_refusal(out, job, refusal), refusal.status())
 }
 
 /// What the job comes to, from its files.
@@ -54,16 +53,11 @@ fn outcome<D: Desk>(alloc: Global, job: &Job, desk: &mut D) -> Result<Said, Refu
     ensures count { CountsFiles result (D.faults desk.old) (D.faults desk.new) }
 {
     match job {
-        Job::Check { .. } => match check_files(alloc, job, desk) {
-            Ok(holding) => Ok(Said::Holds(holding)),
-            Err(refusal) => Err(refusal),
-        },
-        Job::Split { .. } => match split_files(alloc, job, desk) {
-            Ok((split, rows)) => Ok(Said::Parts {
-                split,
-                rows: Items::from_vec(rows),
-            }),
-            Err(refusal) => Err(refusal),
+        Job::Check { .. } => Ok(Said::Holds(check_files(alloc, job, desk)?)),
+        Job::Split { .. } => {
+            let (split, rows) = split_files(alloc, job, desk)?;
+            let rows = Items::from_vec(rows);
+            Ok(Said::Parts { split, rows })
         },
     }
 }
@@ -71,9 +65,7 @@ fn outcome<D: Desk>(alloc: Global, job: &Job, desk: &mut D) -> Result<Said, Refu
 /// Puts what a job comes to.
 fn put_said<O: Sink>(out: &mut O, said: &Said) -> Result<(), PutFailed>
     requires { IsWhole said.now }
-    ensures ok { OnOk result (WhereTold (Takes (said_text said.now)) (O.taken out.old) (O.taken out.new)) }
-    ensures failed { OnErr result (WhereTold (TakesPrefix (said_text said.now)) (O.taken out.old) (O.taken out.new)) }
-    ensures count { CountsFault result (O.faults out.old) (O.faults out.new) }
+    ensures { Puts O.taken O.faults out.old out.new (said_text said.now) result }
 {
     match said {
         Said::Holds(holding) => put_holds(out, *holding),
@@ -147,8 +139,6 @@ pub fn run<D: Desk, O: Sink>(alloc: Global, words: &[String], desk: &mut D, out:
     match read_words(alloc, words) {
         Ok(job) => do_alone(alloc, &job, desk, out),
         Err(WordsFault::Usage) => status_after(put_usage(out), Status::Usage),
-        Err(WordsFault::OutOfMemory) => {
-            status_after(put_refusal(out, &Refusal::Memory, ""), Status::Memory)
-        }
+        Err(WordsFault::OutOfMemory) => { status_after(put_out_of_memory(out), Status::Memory) }
     }
 }
