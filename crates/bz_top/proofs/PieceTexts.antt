@@ -2,12 +2,13 @@
 use Rattle.std.proofs.Common.{◌≡◌, ℕ, ◌+◌, ◌<◌, ◌≤◌, List, [], ◌++◌, length, get_or, drop, Option, Some, None, ap, append_assoc, sym, subst, ◌∷◌}
 use Rattle.std.proofs.lemmas.List.{append-nil}
 use Rattle.std.specs.Prelude.{Result, Ok, Err, IsErr}
-use Rattle.bz_io.specs.Faults.{CountsFault, HasRisen}
+use Rattle.bz_io.specs.Faults.{HasRisen}
 use Rattle.bz_io.specs.Sink.{Takes, TakesPrefix}
 use Rattle.bz_io.specs.Told.{WhereTold}
 use Rattle.bz_model.proofs.Sparse.{left_at, none_left}
 use Rattle.bz_top.specs.declared.pieces.Piece.{Piece}
 use Rattle.bz_top.specs.Pieces.{piece_text, pieces_text}
+use Rattle.bz_top.specs.Putting.{Puts}
 use Rattle.bz_top.specs.Texts.{line}
 use Rattle.bz_top.proofs.Puts.{prefix_before, prefix_behind, takes_behind}
 
@@ -43,23 +44,31 @@ text_next pieces i d l = ap pieces_text (left_at pieces i d l)
 pub text_none : (pieces : List Piece) (i : ℕ) → length pieces ≤ i → pieces_text (drop i pieces) ≡ []
 text_none pieces i l = ap pieces_text (none_left pieces i l)
 
--- a call that failed has raised the count
-pub counts_failed : {T E : Type 0} (r : Result T E) (before after : ℕ) → IsErr r → HasRisen before after → CountsFault r before after
-counts_failed (Ok _) before after f h = absurd cc
-counts_failed (Err _) before after f h = h
+-- a piece could not be put whole, behind those before it
+pub breaks : {S T E : Type 0} (taken : S → Option (List ℕ)) (faults : S → ℕ) (first then now : S) (piece rest all : List ℕ) (r : Result T E) → IsErr r
+    → Finishes (piece ++ rest) all (taken first) (taken then) → faults then ≡ faults first → WhereTold (TakesPrefix piece) (taken then) (taken now) → HasRisen (faults then) (faults now)
+    → Puts taken faults first now all r
+breaks taken faults first then now piece rest all (Ok _) is f same prefix risen = absurd cc
+breaks taken faults first then now piece rest all (Err _) is f same prefix risen = record {
+  ok = tt;
+  failed = breaks_off piece rest all (taken first) (taken then) (taken now) f prefix;
+  count = subst (λ (n : ℕ). HasRisen n (faults now)) same risen;
+}
+
+-- every piece was put
+pub finished : {S T E : Type 0} (taken : S → Option (List ℕ)) (faults : S → ℕ) (first then : S) (all : List ℕ) (x : T) → Finishes [] all (taken first) (taken then) → faults then ≡ faults first
+    → Puts {E = E} taken faults first then all (Ok x)
+finished taken faults first then all x f same = record { ok = ends all (taken first) (taken then) f; failed = tt; count = same }
 
 -- the pieces of a line, read as one line
 pub two_pieces : (a b : List ℕ) → a ++ (b ++ 10 ∷ []) ≡ line (a ++ b)
 two_pieces a b = simp append_assoc
 
-pub three_pieces : (a b c : List ℕ) → a ++ (b ++ (c ++ 10 ∷ [])) ≡ line (a ++ b ++ c)
-three_pieces a b c = simp append_assoc
+pub with_number : (a b n : List ℕ) → a ++ (b ++ (32 ∷ (n ++ 10 ∷ []))) ≡ line (a ++ b ++ (32 ∷ n))
+with_number a b n = simp append_assoc
 
-pub with_number : (a b c n : List ℕ) → a ++ (b ++ (c ++ (32 ∷ (n ++ 10 ∷ [])))) ≡ line (a ++ b ++ c ++ (32 ∷ n))
-with_number a b c n = simp append_assoc
-
-pub with_numbers : (a b c n m : List ℕ) → a ++ (b ++ (c ++ (32 ∷ (n ++ (32 ∷ (m ++ 10 ∷ [])))))) ≡ line (a ++ b ++ c ++ (32 ∷ n) ++ (32 ∷ m))
-with_numbers a b c n m = simp append_assoc
+pub with_numbers : (a b n m : List ℕ) → a ++ (b ++ (32 ∷ (n ++ (32 ∷ (m ++ 10 ∷ []))))) ≡ line (a ++ b ++ (32 ∷ n) ++ (32 ∷ m))
+with_numbers a b n m = simp append_assoc
 
 pub fault_pieces : (file said place between kind name : List ℕ) → file ++ (said ++ (place ++ (between ++ (kind ++ (32 ∷ (name ++ 10 ∷ [])))))) ≡ line (file ++ said ++ place ++ between ++ kind ++ 32 ∷ name)
 fault_pieces file said place between kind name = simp append_assoc

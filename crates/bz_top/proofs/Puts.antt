@@ -4,6 +4,7 @@ use Rattle.std.proofs.lemmas.List.{take-append-le}
 use Rattle.std.proofs.Math.Seq.{take-append-add}
 use Rattle.bz_io.specs.Told.{WhereTold}
 use Rattle.bz_io.specs.Sink.{Takes, TakesPrefix}
+use Rattle.bz_top.specs.Putting.{Puts}
 
 -- a fact about a call that went well gives another
 pub on_ok : {T E : Type 0} {P Q : Type 0} (r : Result T E) → (P → Q) → OnOk r P → OnOk r Q
@@ -76,3 +77,7 @@ pub prefix_of_head : (a b c d : List ℕ) (first now : Option (List ℕ)) → Wh
 prefix_of_head a b c d first now p =
     subst (λ (t : List ℕ). WhereTold (TakesPrefix t) first now) (regrouped a b c d)
     (prefix_before _ _ _ _ (prefix_before _ _ _ _ p))
+
+-- a put of the text is a put of what it reads as
+pub puts_as : {S T E : Type 0} {taken : S → Option (List ℕ)} {faults : S → ℕ} {first last : S} {text other : List ℕ} {r : Result T E} → text ≡ other → Puts taken faults first last text r → Puts taken faults first last other r
+puts_as e p = record { ok = rw (← e) p.ok; failed = rw (← e) p.failed; count = p.count }

@@ -10,10 +10,11 @@ use Rattle.bz_top.specs.declared.status.Refusal.TheVariants as refusal
 use Rattle.bz_top.specs.declared.status.Status.{Status}
 use Rattle.bz_top.specs.declared.status.Status.TheVariants as status
 use Rattle.bz_top.specs.Claims.{BreaksOff, BreaksOffAsked, BreaksOffUsage, EndsSettled, IsCause, RefusesAsked}
-use Rattle.bz_top.specs.Ends.{IsRefused, file_of, name_of, refusal_text, status_after, status_of}
+use Rattle.bz_top.specs.Ends.{IsRefused, refusal_text, status_after, status_of}
 use Rattle.bz_top.specs.Jobs.{SomeJob}
 use Rattle.bz_top.specs.Loads.{Decomposes, IsEarly}
 use Rattle.bz_top.specs.Refusing.{Refuses}
+use Rattle.bz_top.specs.Texts.{memory_text}
 use Rattle.bz_top.proofs.Laws.{texts_say_one_thing}
 use Rattle.bz_top.proofs.Loads.{memory_cause}
 use Rattle.bz_top.proofs.Settled.{refusal_settled, write_settled}
@@ -33,7 +34,7 @@ not_write refusal.Memory e = absurd cc
 pub refuses_breaks : (held : Option Contents) (j : Job) (r : Refusal) (before after : Option (List ℕ)) (faults now : ℕ) (s : Status) → IsCause held j r → Refuses j r before after faults now s → s ≡ status.Write → BreaksOff held j before after
 refuses_breaks held j r before after faults now s cause (inl whole) e = absurd (not_write r (sym whole.status_is ∙ e))
 refuses_breaks held j r before after faults now s cause (inr part) e = record {
-  text = refusal_text r (name_of j (file_of r));
+  text = refusal_text j r;
   said = inr (record { refusal = r; cause = cause; text_is = refl });
   printed = part.printed;
 }
@@ -46,7 +47,7 @@ refuses_settled held j r before after faults now s end cause (inr part) =
 
 -- ---- words that there is no memory for
 pub memory_refused : {T E : Type 0} (put : Result T E) (words : List (List ℕ)) (held : Option Contents) (before after : Option (List ℕ)) → SomeJob words
-    → OnOk put (WhereTold (Takes (refusal_text refusal.Memory [])) before after) → IsRefused (status_after put status.Memory) → RefusesAsked words held (status_after put status.Memory) before after
+    → OnOk put (WhereTold (Takes memory_text) before after) → IsRefused (status_after put status.Memory) → RefusesAsked words held (status_after put status.Memory) before after
 memory_refused (Ok _) words held before after some printed is = record {
   job = some.job;
   asked = some.asked;
@@ -55,13 +56,13 @@ memory_refused (Ok _) words held before after some printed is = record {
 memory_refused (Err _) words held before after some printed is = absurd is
 
 pub memory_written : {T E : Type 0} (put : Result T E) (words : List (List ℕ)) (held : Option Contents) (before after : Option (List ℕ)) → SomeJob words
-    → OnErr put (WhereTold (TakesPrefix (refusal_text refusal.Memory [])) before after) → status_after put status.Memory ≡ status.Write → BreaksOffAsked words held before after ⊎ BreaksOffUsage words before after
+    → OnErr put (WhereTold (TakesPrefix memory_text) before after) → status_after put status.Memory ≡ status.Write → BreaksOffAsked words held before after ⊎ BreaksOffUsage words before after
 memory_written (Ok _) words held before after some printed is = absurd cc
 memory_written (Err _) words held before after some printed is = inl (record {
   job = some.job;
   asked = some.asked;
   breaks = record {
-    text = refusal_text refusal.Memory [];
+    text = memory_text;
     said = inr (record { refusal = refusal.Memory; cause = memory_cause held some.job; text_is = refl });
     printed = printed;
   };

@@ -1,5 +1,5 @@
 -- How the program ends behind what a job comes to.
-use Rattle.std.proofs.Common.{◌≡◌, inl, refl, ℕ, List, Option, Some, None}
+use Rattle.std.proofs.Common.{◌≡◌, ◌≤◌, inl, refl, ℕ, List, Option, Some, None, arith}
 use Rattle.std.specs.Prelude.{Result, Ok, Err, OnOk, OnErr}
 use Rattle.bz_io.specs.Desk.{Contents}
 use Rattle.bz_io.specs.Sink.{Takes, TakesPrefix}
@@ -8,11 +8,15 @@ use Rattle.bz_model.specs.Splits.{Decomposition}
 use Rattle.bz_top.specs.declared.job.Job.{Job}
 use Rattle.bz_top.specs.declared.said.Holding.{Holding}
 use Rattle.bz_top.specs.declared.said.Said.{Said}
+use Rattle.bz_top.specs.declared.status.Refusal.{Refusal}
+use Rattle.bz_top.specs.declared.status.Refusal.TheVariants as refusal
 use Rattle.bz_top.specs.declared.status.Status.TheVariants as status
-use Rattle.bz_top.specs.Claims.{BreaksOff, IsOfJob, Shown, ShowsOf}
+use Rattle.bz_top.specs.Claims.{BreaksOff, CountsFiles, EndsSettled, IsOfJob, Shown, ShowsOf}
 use Rattle.bz_top.specs.Ends.{status_after}
-use Rattle.bz_top.specs.Loads.{ShownHolding, ShownParts}
+use Rattle.bz_top.specs.Loads.{Decomposes, ShownHolding, ShownParts}
 use Rattle.bz_top.specs.Texts.{said_text}
+use Rattle.bz_top.proofs.Laws.{texts_say_one_thing}
+use Rattle.bz_top.proofs.Settled.{after_settled, holding_settled, parts_settled}
 
 pub holding_shown : (held : Option Contents) (j : Job) (holding : Holding) → ShownHolding held j holding → Shown held j (Said.Holds holding)
 holding_shown None j holding h = tt
@@ -35,3 +39,31 @@ said_written (Err _) held j said before after of_job shown printed e = record {
   said = inl (record { said = said; of_job = of_job; shown = shown; text_is = refl });
   printed = printed;
 }
+
+-- what the files show settles the status
+pub said_settled : {T E : Type 0} (put : Result T E) (held : Option Contents) (j : Job) (said : Said) → IsOfJob j said → Decomposes held j → Shown held j said
+    → EndsSettled held j (status_after put status.Done)
+said_settled put held j (Said.Holds holding) of_job decomposed shown =
+    after_settled put held j status.Done (holding_settled texts_say_one_thing held j holding of_job decomposed (shown_holding held shown))
+  where
+    shown_holding : (held : Option Contents) → Shown held j (Said.Holds holding) → ShownHolding held j holding
+    shown_holding None h = tt
+    shown_holding (Some contents) h = h
+said_settled put held j (Said.Parts d rows) of_job decomposed shown =
+    after_settled put held j status.Done (parts_settled texts_say_one_thing held j d of_job.0 decomposed (shown_parts held shown))
+  where
+    shown_parts : (held : Option Contents) → Shown held j (Said.Parts d rows) → ShownParts held j d
+    shown_parts None h = tt
+    shown_parts (Some contents) h = h
+
+-- loads don't make the count of faults fall
+pub loads_no_fall : {T : Type 0} (r : Result T Refusal) (before after : ℕ) → CountsFiles r before after → before ≤ after
+loads_no_fall (Ok _) before after h = omega (arith, h)
+loads_no_fall (Err (refusal.Model _)) before after h = omega (arith, h)
+loads_no_fall (Err (refusal.Part _)) before after h = omega (arith, h)
+loads_no_fall (Err (refusal.Split _)) before after h = omega (arith, h)
+loads_no_fall (Err (refusal.Cert _)) before after h = omega (arith, h)
+loads_no_fall (Err (refusal.Check _)) before after h = omega (arith, h)
+loads_no_fall (Err (refusal.Read _)) before after h = h.no_fall
+loads_no_fall (Err (refusal.TooLong _)) before after h = omega (arith, h)
+loads_no_fall (Err refusal.Memory) before after h = omega (arith, h)

@@ -43,7 +43,7 @@ use Rattle.bz_top.specs.declared.status.Refusal.{Refusal}
 use Rattle.bz_top.specs.declared.status.Refusal.TheVariants as refusal
 use Rattle.bz_top.specs.declared.status.Status.{Status}
 use Rattle.bz_top.specs.declared.status.Status.TheVariants as status
-use Rattle.bz_top.specs.Ends.{name_of, status_of, refusal_text, file_of}
+use Rattle.bz_top.specs.Ends.{name_of, status_of, refusal_text}
 use Rattle.bz_top.specs.Jobs.{JobOf, IsJobless}
 use Rattle.bz_top.specs.Texts.{said_text, usage_text}
 
@@ -230,7 +230,7 @@ pub record RefusesJob (held : Option Contents) (j : Job) (ends : Status) (before
   pub refusal : Refusal
   pub status_is : ends ≡ status_of refusal
   pub cause : IsCause held j refusal
-  pub printed : WhereTold (Takes (refusal_text refusal (name_of j (file_of refusal)))) before after
+  pub printed : WhereTold (Takes (refusal_text j refusal)) before after
 
 -- the text is that of what the files show
 pub record SaysShown (held : Option Contents) (j : Job) (text : List ℕ) : Type 0 where
@@ -243,7 +243,7 @@ pub record SaysShown (held : Option Contents) (j : Job) (text : List ℕ) : Type
 pub record SaysRefusal (held : Option Contents) (j : Job) (text : List ℕ) : Type 0 where
   pub refusal : Refusal
   pub cause : IsCause held j refusal
-  pub text_is : text ≡ refusal_text refusal (name_of j (file_of refusal))
+  pub text_is : text ≡ refusal_text j refusal
 
 -- the text is one that the job may end with
 abbrev pub IsSaid : Option Contents → Job → List ℕ → Type 0

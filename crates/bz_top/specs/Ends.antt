@@ -8,7 +8,7 @@ use Rattle.bz_top.specs.declared.status.Status.{Status}
 use Rattle.bz_top.specs.declared.status.Status.TheVariants as status
 use Rattle.bz_top.specs.declared.job.Job.{Job}
 use Rattle.bz_top.specs.declared.job.Job.TheVariants.{Check, Split}
-use Rattle.bz_top.specs.Texts.{line, cert_fault, check_fault, check_word, mps_fault, part_fault, split_fault}
+use Rattle.bz_top.specs.Texts.{line, cert_fault, check_fault, check_word, memory_text, mps_fault, part_fault, split_fault}
 
 -- the number of a status
 abbrev pub number_of : Status → ℕ
@@ -43,31 +43,16 @@ status_of (refusal.Read file) = status.Read
 status_of (refusal.TooLong file) = status.TooLong
 status_of refusal.Memory = status.Memory
 
--- what is printed of a refusal of the file with the name
-abbrev pub refusal_words : Refusal → List ℕ → List ℕ
-refusal_words (refusal.Model fault) name = mps_fault fault
-refusal_words (refusal.Part fault) name = part_fault fault
-refusal_words (refusal.Split u) name = codes "split: " ++ split_fault u.model u.part u.fault
-refusal_words (refusal.Cert fault) name = cert_fault fault
-refusal_words (refusal.Check fault) name = check_word (check_fault fault)
-refusal_words (refusal.Read file) name = codes "read fault: " ++ name
-refusal_words (refusal.TooLong file) name = codes "too long: " ++ name
-refusal_words refusal.Memory name = codes "out of memory"
-
--- the text of a refusal of the file with the name
-abbrev pub refusal_text : Refusal → List ℕ → List ℕ
-refusal_text refusal name = line (refusal_words refusal name)
-
--- the file that a refusal is of; the model's where it is of none
-abbrev pub file_of : Refusal → File
-file_of (refusal.Model fault) = ModelFile
-file_of (refusal.Part fault) = PartFile
-file_of (refusal.Split unsplit) = PartFile
-file_of (refusal.Cert fault) = CertFile
-file_of (refusal.Check fault) = CertFile
-file_of (refusal.Read file) = file
-file_of (refusal.TooLong file) = file
-file_of refusal.Memory = ModelFile
+-- what is printed of a refusal of the job
+abbrev pub refusal_text : Job → Refusal → List ℕ
+refusal_text j (refusal.Model fault) = line (mps_fault fault)
+refusal_text j (refusal.Part fault) = line (part_fault fault)
+refusal_text j (refusal.Split u) = line (codes "split: " ++ split_fault u.model u.part u.fault)
+refusal_text j (refusal.Cert fault) = line (cert_fault fault)
+refusal_text j (refusal.Check fault) = line (check_word (check_fault fault))
+refusal_text j (refusal.Read file) = line (codes "read fault: " ++ name_of j file)
+refusal_text j (refusal.TooLong file) = line (codes "too long: " ++ name_of j file)
+refusal_text j refusal.Memory = memory_text
 
 -- the status after the last text: that of a write where the text could not be put whole
 abbrev pub status_after : {T E : Type 0} → Result T E → Status → Status

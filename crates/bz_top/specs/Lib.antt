@@ -3,6 +3,7 @@ pub mod Ends
 pub mod Jobs
 pub mod Loads
 pub mod Pieces
+pub mod Putting
 pub mod Refusing
 pub mod Texts
 pub mod Words

@@ -1,9 +1,10 @@
 -- What the parts of a job answer: its loads, its split and its check.
-use Rattle.std.specs.Prelude.{ℕ, ◌≡◌, ◌⊎◌, ◌<◌, ◌≤◌, List, length, Option, Some, None, Result, Ok, Err}
+use Rattle.std.specs.Prelude.{ℕ, ◌≡◌, ◌⊎◌, ◌<◌, ◌≤◌, ◌+◌, List, length, Option, Some, None, Result, Ok, Err}
 use Rattle.bz_algebra.specs.Fractions.{IsSameNumber}
 use Rattle.bz_io.specs.Desk.{Contents, HoldsWith}
 use Rattle.bz_model.specs.declared.Model.{Model}
 use Rattle.bz_model.specs.declared.Parts.{Parts}
+use Rattle.bz_model.specs.Parting.{blocks_of}
 use Rattle.bz_model.specs.Splits.{Decomposition, IsSplit}
 use Rattle.bz_split.specs.SplitFaults.{IsSplitFault}
 use Rattle.bz_cert.specs.declared.Certificate.{Certificate}
@@ -15,6 +16,7 @@ use Rattle.bz_pass.specs.Verdicts.{objective_of}
 use Rattle.bz_top.specs.declared.job.Job.{Job}
 use Rattle.bz_top.specs.declared.said.Holding.{Holding}
 use Rattle.bz_top.specs.declared.said.Holding.TheVariants.{Optimal, Infeasible, Unbounded}
+use Rattle.bz_top.specs.declared.said.Said.{Said}
 use Rattle.bz_top.specs.declared.status.File.{File}
 use Rattle.bz_top.specs.declared.status.File.TheVariants.{Model as ModelFile, Part as PartFile, Cert as CertFile}
 use Rattle.bz_top.specs.declared.status.Refusal.{Refusal}
@@ -105,3 +107,8 @@ ShownHolding (Some contents) j holding = ShowsVerdict contents j holding
 abbrev pub ShownParts : Option Contents → Job → Decomposition → Type 0
 ShownParts None j d = Unit {0}
 ShownParts (Some contents) j d = ShowsParts contents j d
+
+-- the parts are those of a split, and there is a number of rows for each
+abbrev pub IsWhole : Said → Type 0
+IsWhole (Said.Holds holding) = Unit {0}
+IsWhole (Said.Parts d rows) = IsSplit d × (length rows ≡ blocks_of d.part + 1)

@@ -7,18 +7,18 @@ use Rattle.bz_top.specs.declared.job.Job.{Job}
 use Rattle.bz_top.specs.declared.status.Refusal.{Refusal}
 use Rattle.bz_top.specs.declared.status.Status.{Status}
 use Rattle.bz_top.specs.declared.status.Status.TheVariants as status
-use Rattle.bz_top.specs.Ends.{file_of, name_of, refusal_text, status_of}
+use Rattle.bz_top.specs.Ends.{refusal_text, status_of}
 
 -- the text was put whole, and the status is the refusal's
 pub record PutsWhole (j : Job) (r : Refusal) (before after : Option (List ℕ)) (faults now : ℕ) (ends : Status) : Type 0 where
   pub status_is : ends ≡ status_of r
-  pub printed : WhereTold (Takes (refusal_text r (name_of j (file_of r)))) before after
+  pub printed : WhereTold (Takes (refusal_text j r)) before after
   pub no_fault : now ≡ faults
 
 -- a prefix of it was put, and the status is that of a failed write
 pub record PutsPrefix (j : Job) (r : Refusal) (before after : Option (List ℕ)) (faults now : ℕ) (ends : Status) : Type 0 where
   pub status_is : ends ≡ status.Write
-  pub printed : WhereTold (TakesPrefix (refusal_text r (name_of j (file_of r)))) before after
+  pub printed : WhereTold (TakesPrefix (refusal_text j r)) before after
   pub risen : HasRisen faults now
 
 abbrev pub Refuses : Job → Refusal → Option (List ℕ) → Option (List ℕ) → ℕ → ℕ → Status → Type 0

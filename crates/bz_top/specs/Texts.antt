@@ -47,6 +47,9 @@ fraction_text f = signed_decimal f.num ++ over_text f.den
 abbrev pub usage_text : List ℕ
 usage_text = codes "usage: solve MODEL PART CERT [--budget=N] [--workers=N] | check MODEL PART CERT | split MODEL PART | try N\n"
 
+abbrev pub memory_text : List ℕ
+memory_text = line (codes "out of memory")
+
 -- what a certificate that holds says
 abbrev pub verdict_text : Holding → List ℕ
 verdict_text (Optimal stated) = codes "optimal " ++ fraction_text (stated_fraction stated)

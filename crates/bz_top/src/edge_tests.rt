@@ -536,6 +536,7 @@ fn changed(alloc: Global, text: &str, edge: &Edge) -> Result<String, AllocError>
 #[test]
 fn models_end_as_their_texts_say(rt: HostRuntime) -> Result<(), Fail> {
     for edge in MODEL_EDGES {
+        assert!(rt; MODEL.contains(edge.old), "no {}", edge.old);
         let text = changed(rt.alloc(), MODEL, &edge)?;
         let model = text.as_str();
         let (ended, printed) = ends(
@@ -552,6 +553,7 @@ fn models_end_as_their_texts_say(rt: HostRuntime) -> Result<(), Fail> {
 #[test]
 fn partitions_end_as_their_texts_say(rt: HostRuntime) -> Result<(), Fail> {
     for edge in PART_EDGES {
+        assert!(rt; PART.contains(edge.old), "no {}", edge.old);
         let text = changed(rt.alloc(), PART, &edge)?;
         let part = text.as_str();
         let (ended, printed) = ends(
@@ -568,6 +570,7 @@ fn partitions_end_as_their_texts_say(rt: HostRuntime) -> Result<(), Fail> {
 #[test]
 fn certificates_end_as_their_texts_say(rt: HostRuntime) -> Result<(), Fail> {
     for edge in CERT_EDGES {
+        assert!(rt; CERT.contains(edge.old), "no {}", edge.old);
         let text = changed(rt.alloc(), CERT, &edge)?;
         let cert = text.as_str();
         let (ended, printed) = ends(

@@ -13,6 +13,8 @@ mod print;
 mod put_parts;
 mod running;
 mod said;
+#[cfg(test)]
+mod split_tests;
 mod status;
 #[cfg(test)]
 mod tests;

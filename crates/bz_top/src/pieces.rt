@@ -1,9 +1,6 @@
 //! Texts that are put piece by piece. None of it takes memory.
-ghost use Rattle.std.specs.Prelude.{◌++◌, OnOk, OnErr};
-ghost use Rattle.bz_io.specs.Faults.{CountsFault};
-ghost use Rattle.bz_io.specs.Sink.{Takes, TakesPrefix};
-ghost use Rattle.bz_io.specs.Told.{WhereTold};
 ghost use Rattle.bz_top.specs.Pieces.{piece_text, pieces_text};
+ghost use Rattle.bz_top.specs.Putting.{Puts};
 
 use bz_io::{PutFailed, Sink, put_all};
 use itoa::Buffer;
@@ -21,9 +18,7 @@ pub(crate) enum Piece<'a> {
 
 /// Puts one piece.
 fn put_piece<O: Sink>(out: &mut O, piece: Piece) -> Result<(), PutFailed>
-    ensures ok { OnOk result (WhereTold (Takes (piece_text piece.entry)) (O.taken out.old) (O.taken out.new)) }
-    ensures failed { OnErr result (WhereTold (TakesPrefix (piece_text piece.entry)) (O.taken out.old) (O.taken out.new)) }
-    ensures count { CountsFault result (O.faults out.old) (O.faults out.new) }
+    ensures { Puts O.taken O.faults out.old out.new (piece_text piece.entry) result }
 {
     match piece {
         Piece::Text(bytes) => put_all(out, bytes),
@@ -40,9 +35,7 @@ fn put_piece<O: Sink>(out: &mut O, piece: Piece) -> Result<(), PutFailed>
 
 /// Puts the pieces, one after another.
 pub(crate) fn put_pieces<O: Sink>(out: &mut O, pieces: &[Piece]) -> Result<(), PutFailed>
-    ensures ok { OnOk result (WhereTold (Takes (pieces_text pieces.now)) (O.taken out.old) (O.taken out.new)) }
-    ensures failed { OnErr result (WhereTold (TakesPrefix (pieces_text pieces.now)) (O.taken out.old) (O.taken out.new)) }
-    ensures count { CountsFault result (O.faults out.old) (O.faults out.new) }
+    ensures { Puts O.taken O.faults out.old out.new (pieces_text pieces.now) result }
 {
     for piece in pieces {
         put_piece(out, *piece)?;

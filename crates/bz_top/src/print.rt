@@ -1,13 +1,13 @@
 //! The texts that the program prints. None of them takes memory.
-ghost use Rattle.std.specs.Prelude.{◌≡◌, ◌++◌, OnOk, OnErr, codes};
-ghost use Rattle.bz_io.specs.Faults.{CountsFault};
-ghost use Rattle.bz_io.specs.Sink.{Takes, TakesPrefix};
-ghost use Rattle.bz_io.specs.Told.{WhereTold};
+ghost use Rattle.std.specs.Prelude.{◌≡◌, ◌++◌, codes};
 ghost use Rattle.bz_model.specs.Parting.{part_of};
 ghost use Rattle.bz_top.specs.Ends.{refusal_text};
-ghost use Rattle.bz_top.specs.Texts.{cert_fault, check_fault, check_word, column_named, holds_text, line, mps_fault, numbered, part_fault, row_named, split_fault, text_fault, usage_text};
+ghost use Rattle.bz_top.specs.Putting.{Puts};
+ghost use Rattle.bz_top.specs.Texts.{cert_fault, check_fault, check_word, column_named, holds_text, line, memory_text, mps_fault, numbered, part_fault, row_named, split_fault, text_fault, usage_text};
 
+use crate::job::Job;
 use crate::kinds::{cert_name, cert_number, mps_name, mps_number, part_name, part_number};
+use crate::loading::file_name;
 use crate::pieces::Piece::{Count, Number, Text};
 use crate::pieces::put_pieces;
 use crate::said::Holding;
@@ -22,9 +22,7 @@ use bz_split::{SplitFault, Unsplit};
 
 /// Puts the line of a certificate of an optimum that holds.
 fn put_optimal<O: Sink>(out: &mut O, stated: Stated) -> Result<(), PutFailed>
-    ensures ok { OnOk result (WhereTold (Takes (holds_text (Holding.Optimal stated))) (O.taken out.old) (O.taken out.new)) }
-    ensures failed { OnErr result (WhereTold (TakesPrefix (holds_text (Holding.Optimal stated))) (O.taken out.old) (O.taken out.new)) }
-    ensures count { CountsFault result (O.faults out.old) (O.faults out.new) }
+    ensures { Puts O.taken O.faults out.old out.new (holds_text (Holding.Optimal stated)) result }
 {
     let front = Text(b"certificate holds: optimal ");
     if stated.den == 1 {
@@ -44,9 +42,7 @@ fn put_optimal<O: Sink>(out: &mut O, stated: Stated) -> Result<(), PutFailed>
 
 /// Puts the line of a certificate that holds.
 pub(crate) fn put_holds<O: Sink>(out: &mut O, holding: Holding) -> Result<(), PutFailed>
-    ensures ok { OnOk result (WhereTold (Takes (holds_text holding)) (O.taken out.old) (O.taken out.new)) }
-    ensures failed { OnErr result (WhereTold (TakesPrefix (holds_text holding)) (O.taken out.old) (O.taken out.new)) }
-    ensures count { CountsFault result (O.faults out.old) (O.faults out.new) }
+    ensures { Puts O.taken O.faults out.old out.new (holds_text holding) result }
 {
     match holding {
         Holding::Optimal(stated) => put_optimal(out, stated),
@@ -63,9 +59,7 @@ fn put_text_fault<'x, O: Sink>(
     kind: u32,
     name: &'x [u8],
 ) -> Result<(), PutFailed>
-    ensures ok { OnOk result (WhereTold (Takes (line (text_fault file.now place kind name.now))) (O.taken out.old) (O.taken out.new)) }
-    ensures failed { OnErr result (WhereTold (TakesPrefix (line (text_fault file.now place kind name.now))) (O.taken out.old) (O.taken out.new)) }
-    ensures count { CountsFault result (O.faults out.old) (O.faults out.new) }
+    ensures { Puts O.taken O.faults out.old out.new (line (text_fault file.now place kind name.now)) result }
 {
     put_pieces(
         out,
@@ -84,9 +78,7 @@ fn put_text_fault<'x, O: Sink>(
 
 /// Puts the line of a fault of a model's text.
 fn put_mps_fault<O: Sink>(out: &mut O, fault: MpsFault) -> Result<(), PutFailed>
-    ensures ok { OnOk result (WhereTold (Takes (line (mps_fault fault))) (O.taken out.old) (O.taken out.new)) }
-    ensures failed { OnErr result (WhereTold (TakesPrefix (line (mps_fault fault))) (O.taken out.old) (O.taken out.new)) }
-    ensures count { CountsFault result (O.faults out.old) (O.faults out.new) }
+    ensures { Puts O.taken O.faults out.old out.new (line (mps_fault fault)) result }
 {
     let kind = fault.kind;
     put_text_fault(out, b"model", fault.line, mps_number(kind), mps_name(kind))
@@ -94,9 +86,7 @@ fn put_mps_fault<O: Sink>(out: &mut O, fault: MpsFault) -> Result<(), PutFailed>
 
 /// Puts the line of a fault of a partition's text.
 fn put_part_fault<O: Sink>(out: &mut O, fault: PartFault) -> Result<(), PutFailed>
-    ensures ok { OnOk result (WhereTold (Takes (line (part_fault fault))) (O.taken out.old) (O.taken out.new)) }
-    ensures failed { OnErr result (WhereTold (TakesPrefix (line (part_fault fault))) (O.taken out.old) (O.taken out.new)) }
-    ensures count { CountsFault result (O.faults out.old) (O.faults out.new) }
+    ensures { Puts O.taken O.faults out.old out.new (line (part_fault fault)) result }
 {
     let kind = fault.kind;
     put_text_fault(
@@ -110,9 +100,7 @@ fn put_part_fault<O: Sink>(out: &mut O, fault: PartFault) -> Result<(), PutFaile
 
 /// Puts the line of a fault of a certificate's text.
 fn put_cert_fault<O: Sink>(out: &mut O, fault: CertFault) -> Result<(), PutFailed>
-    ensures ok { OnOk result (WhereTold (Takes (line (cert_fault fault))) (O.taken out.old) (O.taken out.new)) }
-    ensures failed { OnErr result (WhereTold (TakesPrefix (line (cert_fault fault))) (O.taken out.old) (O.taken out.new)) }
-    ensures count { CountsFault result (O.faults out.old) (O.faults out.new) }
+    ensures { Puts O.taken O.faults out.old out.new (line (cert_fault fault)) result }
 {
     let kind = fault.kind;
     put_text_fault(
@@ -124,48 +112,53 @@ fn put_cert_fault<O: Sink>(out: &mut O, fault: CertFault) -> Result<(), PutFaile
     )
 }
 
-/// Puts a word of the check with no number.
-fn put_word<O: Sink>(out: &mut O, word: &[u8]) -> Result<(), PutFailed>
-    ensures ok { OnOk result (WhereTold (Takes (line (check_word word.now))) (O.taken out.old) (O.taken out.new)) }
-    ensures failed { OnErr result (WhereTold (TakesPrefix (line (check_word word.now))) (O.taken out.old) (O.taken out.new)) }
-    ensures count { CountsFault result (O.faults out.old) (O.faults out.new) }
+/// Puts a line of two texts.
+fn put_line<'x, O: Sink>(out: &mut O, front: &'x [u8], name: &'x [u8]) -> Result<(), PutFailed>
+    ensures { Puts O.taken O.faults out.old out.new (line (front.now ++ name.now)) result }
 {
-    put_pieces(out, &[Text(b"certificate: "), Text(word), Text(b"\n")])
+    put_pieces(out, &[Text(front), Text(name), Text(b"\n")])
 }
 
-/// Puts a word of the check with one number.
-fn put_one<O: Sink>(out: &mut O, word: &[u8], at: u32) -> Result<(), PutFailed>
-    ensures ok { OnOk result (WhereTold (Takes (line (check_word (word.now ++ numbered at)))) (O.taken out.old) (O.taken out.new)) }
-    ensures failed { OnErr result (WhereTold (TakesPrefix (line (check_word (word.now ++ numbered at)))) (O.taken out.old) (O.taken out.new)) }
-    ensures count { CountsFault result (O.faults out.old) (O.faults out.new) }
+/// Puts a line of two texts and a number.
+fn put_numbered<'x, O: Sink>(
+    out: &mut O,
+    front: &'x [u8],
+    name: &'x [u8],
+    number: u32,
+) -> Result<(), PutFailed>
+    ensures { Puts O.taken O.faults out.old out.new (line (front.now ++ name.now ++ numbered number)) result }
 {
     put_pieces(
         out,
         &[
-            Text(b"certificate: "),
-            Text(word),
+            Text(front),
+            Text(name),
             Text(b" "),
-            Count(at as usize),
+            Count(number as usize),
             Text(b"\n"),
         ],
     )
 }
 
-/// Puts a word of the check with two numbers.
-fn put_two<O: Sink>(out: &mut O, word: &[u8], first: u32, at: u32) -> Result<(), PutFailed>
-    ensures ok { OnOk result (WhereTold (Takes (line (check_word (word.now ++ numbered first ++ numbered at)))) (O.taken out.old) (O.taken out.new)) }
-    ensures failed { OnErr result (WhereTold (TakesPrefix (line (check_word (word.now ++ numbered first ++ numbered at)))) (O.taken out.old) (O.taken out.new)) }
-    ensures count { CountsFault result (O.faults out.old) (O.faults out.new) }
+/// Puts a line of two texts and two numbers.
+fn put_numbered_twice<'x, O: Sink>(
+    out: &mut O,
+    front: &'x [u8],
+    name: &'x [u8],
+    first: u32,
+    second: u32,
+) -> Result<(), PutFailed>
+    ensures { Puts O.taken O.faults out.old out.new (line (front.now ++ name.now ++ numbered first ++ numbered second)) result }
 {
     put_pieces(
         out,
         &[
-            Text(b"certificate: "),
-            Text(word),
+            Text(front),
+            Text(name),
             Text(b" "),
             Count(first as usize),
             Text(b" "),
-            Count(at as usize),
+            Count(second as usize),
             Text(b"\n"),
         ],
     )
@@ -173,21 +166,31 @@ fn put_two<O: Sink>(out: &mut O, word: &[u8], first: u32, at: u32) -> Result<(),
 
 /// Puts the line of a fault of the check.
 fn put_check_fault<O: Sink>(out: &mut O, fault: CheckFault) -> Result<(), PutFailed>
-    ensures ok { OnOk result (WhereTold (Takes (line (check_word (check_fault fault)))) (O.taken out.old) (O.taken out.new)) }
-    ensures failed { OnErr result (WhereTold (TakesPrefix (line (check_word (check_fault fault)))) (O.taken out.old) (O.taken out.new)) }
-    ensures count { CountsFault result (O.faults out.old) (O.faults out.new) }
+    ensures { Puts O.taken O.faults out.old out.new (line (check_word (check_fault fault))) result }
 {
     match fault {
-        CheckFault::Shape => put_word(out, b"Shape"),
-        CheckFault::Point { part, at } => put_two(out, b"Point", part, at),
-        CheckFault::Cost { block } => put_one(out, b"Cost", block),
-        CheckFault::Value => put_word(out, b"Value"),
-        CheckFault::Ray => put_word(out, b"Ray"),
-        CheckFault::Cut { i } => put_one(out, b"Cut", i),
-        CheckFault::Cover { node } => put_one(out, b"Cover", node),
-        CheckFault::Leaf { node } => put_one(out, b"Leaf", node),
-        CheckFault::Wide { list, at } => put_two(out, b"Wide", list, at),
-        CheckFault::OutOfMemory => put_word(out, b""),
+        CheckFault::Shape => put_line(out, b"certificate: ", b"Shape"),
+        CheckFault::Point { part, at } => put_numbered_twice(
+            out,
+            b"certificate: ",
+            b"Point",
+            part,
+            at,
+        ),
+        CheckFault::Cost { block } => put_numbered(out, b"certificate: ", b"Cost", block),
+        CheckFault::Value => put_line(out, b"certificate: ", b"Value"),
+        CheckFault::Ray => put_line(out, b"certificate: ", b"Ray"),
+        CheckFault::Cut { i } => put_numbered(out, b"certificate: ", b"Cut", i),
+        CheckFault::Cover { node } => put_numbered(out, b"certificate: ", b"Cover", node),
+        CheckFault::Leaf { node } => put_numbered(out, b"certificate: ", b"Leaf", node),
+        CheckFault::Wide { list, at } => put_numbered_twice(
+            out,
+            b"certificate: ",
+            b"Wide",
+            list,
+            at,
+        ),
+        CheckFault::OutOfMemory => put_line(out, b"certificate: ", b""),
     }
 }
 
@@ -221,123 +224,48 @@ fn part_at(part: &[u32], column: u32) -> u32
     }
 }
 
-/// Puts why a model has no split, with a name.
-fn put_split_name<'x, O: Sink>(out: &mut O, why: &'x [u8], name: &'x [u8]) -> Result<(), PutFailed>
-    ensures ok { OnOk result (WhereTold (Takes (line (codes "split: " ++ why.now ++ name.now))) (O.taken out.old) (O.taken out.new)) }
-    ensures failed { OnErr result (WhereTold (TakesPrefix (line (codes "split: " ++ why.now ++ name.now))) (O.taken out.old) (O.taken out.new)) }
-    ensures count { CountsFault result (O.faults out.old) (O.faults out.new) }
-{
-    put_pieces(out, &[Text(b"split: "), Text(why), Text(name), Text(b"\n")])
-}
-
-/// Puts why a model has no split, with a name and a number.
-fn put_split_number<'x, O: Sink>(
-    out: &mut O,
-    why: &'x [u8],
-    name: &'x [u8],
-    number: u32,
-) -> Result<(), PutFailed>
-    ensures ok { OnOk result (WhereTold (Takes (line (codes "split: " ++ why.now ++ name.now ++ numbered number))) (O.taken out.old) (O.taken out.new)) }
-    ensures failed { OnErr result (WhereTold (TakesPrefix (line (codes "split: " ++ why.now ++ name.now ++ numbered number))) (O.taken out.old) (O.taken out.new)) }
-    ensures count { CountsFault result (O.faults out.old) (O.faults out.new) }
-{
-    put_pieces(
-        out,
-        &[
-            Text(b"split: "),
-            Text(why),
-            Text(name),
-            Text(b" "),
-            Count(number as usize),
-            Text(b"\n"),
-        ],
-    )
-}
-
-/// Puts why a model has no split, with a name and two numbers.
-fn put_split_numbers<'x, O: Sink>(
-    out: &mut O,
-    why: &'x [u8],
-    name: &'x [u8],
-    first: u32,
-    second: u32,
-) -> Result<(), PutFailed>
-    ensures ok { OnOk result (WhereTold (Takes (line (codes "split: " ++ why.now ++ name.now ++ numbered first ++ numbered second))) (O.taken out.old) (O.taken out.new)) }
-    ensures failed { OnErr result (WhereTold (TakesPrefix (line (codes "split: " ++ why.now ++ name.now ++ numbered first ++ numbered second))) (O.taken out.old) (O.taken out.new)) }
-    ensures count { CountsFault result (O.faults out.old) (O.faults out.new) }
-{
-    put_pieces(
-        out,
-        &[
-            Text(b"split: "),
-            Text(why),
-            Text(name),
-            Text(b" "),
-            Count(first as usize),
-            Text(b" "),
-            Count(second as usize),
-            Text(b"\n"),
-        ],
-    )
-}
-
 /// Puts the line of why a model has no split.
 fn put_unsplit<O: Sink>(out: &mut O, unsplit: &Unsplit) -> Result<(), PutFailed>
-    ensures ok { OnOk result (WhereTold (Takes (line (codes "split: " ++ split_fault unsplit.now.model unsplit.now.part unsplit.now.fault))) (O.taken out.old) (O.taken out.new)) }
-    ensures failed { OnErr result (WhereTold (TakesPrefix (line (codes "split: " ++ split_fault unsplit.now.model unsplit.now.part unsplit.now.fault))) (O.taken out.old) (O.taken out.new)) }
-    ensures count { CountsFault result (O.faults out.old) (O.faults out.new) }
+    ensures { Puts O.taken O.faults out.old out.new (line (codes "split: " ++ split_fault unsplit.now.model unsplit.now.part unsplit.now.fault)) result }
 {
     let model = &unsplit.model;
     match unsplit.fault {
         SplitFault::Joins { row, a, b } => {
-            put_split_numbers(out, b"joins ", row_name(model, row), a, b)
+            put_numbered_twice(out, b"split: joins ", row_name(model, row), a, b)
         },
-        SplitFault::IntegerInBlock { column } => put_split_number(
+        SplitFault::IntegerInBlock { column } => put_numbered(
             out,
-            b"integer in block ",
+            b"split: integer in block ",
             column_name(model, column),
             part_at(unsplit.part.as_slice(), column),
         ),
         SplitFault::IntegerOpen { column } => {
-            put_split_name(out, b"integer open ", column_name(model, column))
+            put_line(out, b"split: integer open ", column_name(model, column))
         },
         SplitFault::OpenMaster { column } => {
-            put_split_name(out, b"open master ", column_name(model, column))
+            put_line(out, b"split: open master ", column_name(model, column))
         },
         SplitFault::TooLarge { part, count } => {
-            put_split_numbers(out, b"too large", b"", part, count)
+            put_numbered_twice(out, b"split: too large", b"", part, count)
         },
-        SplitFault::OutOfMemory => put_split_name(out, b"", b""),
+        SplitFault::OutOfMemory => put_line(out, b"split: ", b""),
     }
 }
 
-/// Puts the text and a line feed.
-fn put_line<O: Sink>(out: &mut O, text: &[u8]) -> Result<(), PutFailed>
-    ensures ok { OnOk result (WhereTold (Takes (line text.now)) (O.taken out.old) (O.taken out.new)) }
-    ensures failed { OnErr result (WhereTold (TakesPrefix (line text.now)) (O.taken out.old) (O.taken out.new)) }
-    ensures count { CountsFault result (O.faults out.old) (O.faults out.new) }
+/// Puts that there is no memory.
+pub(crate) fn put_out_of_memory<O: Sink>(out: &mut O) -> Result<(), PutFailed>
+    ensures { Puts O.taken O.faults out.old out.new memory_text result }
 {
-    put_pieces(out, &[Text(text), Text(b"\n")])
+    put_all(out, b"out of memory\n")
 }
 
-/// Puts the text, a name and a line feed.
-fn put_named<'x, O: Sink>(out: &mut O, text: &'x [u8], name: &'x str) -> Result<(), PutFailed>
-    ensures ok { OnOk result (WhereTold (Takes (line (text.now ++ name.now))) (O.taken out.old) (O.taken out.new)) }
-    ensures failed { OnErr result (WhereTold (TakesPrefix (line (text.now ++ name.now))) (O.taken out.old) (O.taken out.new)) }
-    ensures count { CountsFault result (O.faults out.old) (O.faults out.new) }
-{
-    put_pieces(out, &[Text(text), Text(name.as_bytes()), Text(b"\n")])
-}
-
-/// Puts the text of a refusal. `name` is that of the file which it is of.
+/// Puts the text of a refusal of the job.
 pub(crate) fn put_refusal<O: Sink>(
     out: &mut O,
+    job: &Job,
     refusal: &Refusal,
-    name: &str,
 ) -> Result<(), PutFailed>
-    ensures ok { OnOk result (WhereTold (Takes (refusal_text refusal.now name.now)) (O.taken out.old) (O.taken out.new)) }
-    ensures failed { OnErr result (WhereTold (TakesPrefix (refusal_text refusal.now name.now)) (O.taken out.old) (O.taken out.new)) }
-    ensures count { CountsFault result (O.faults out.old) (O.faults out.new) }
+    ensures { Puts O.taken O.faults out.old out.new (refusal_text job.now refusal.now) result }
 {
     match refusal {
         Refusal::Model(fault) => put_mps_fault(out, *fault),
@@ -345,17 +273,15 @@ pub(crate) fn put_refusal<O: Sink>(
         Refusal::Split(unsplit) => put_unsplit(out, unsplit),
         Refusal::Cert(fault) => put_cert_fault(out, *fault),
         Refusal::Check(fault) => put_check_fault(out, *fault),
-        Refusal::Read(_) => put_named(out, b"read fault: ", name),
-        Refusal::TooLong(_) => put_named(out, b"too long: ", name),
-        Refusal::Memory => put_line(out, b"out of memory"),
+        Refusal::Read(file) => put_line(out, b"read fault: ", file_name(job, *file).as_bytes()),
+        Refusal::TooLong(file) => put_line(out, b"too long: ", file_name(job, *file).as_bytes()),
+        Refusal::Memory => put_out_of_memory(out),
     }
 }
 
 /// Puts the usage line.
 pub(crate) fn put_usage<O: Sink>(out: &mut O) -> Result<(), PutFailed>
-    ensures ok { OnOk result (WhereTold (Takes usage_text) (O.taken out.old) (O.taken out.new)) }
-    ensures failed { OnErr result (WhereTold (TakesPrefix usage_text) (O.taken out.old) (O.taken out.new)) }
-    ensures count { CountsFault result (O.faults out.old) (O.faults out.new) }
+    ensures { Puts O.taken O.faults out.old out.new usage_text result }
 {
     put_all(
         out,

@@ -1,11 +1,9 @@
 //! The lines of the parts of a split.
-ghost use Rattle.std.specs.Prelude.{◌≡◌, ◌≤◌, ◌+◌, OnOk, OnErr, filter, length};
-ghost use Rattle.bz_io.specs.Faults.{CountsFault};
-ghost use Rattle.bz_io.specs.Sink.{Takes, TakesPrefix};
-ghost use Rattle.bz_io.specs.Told.{WhereTold};
+ghost use Rattle.std.specs.Prelude.{◌≡◌, ◌≤◌, ◌+◌, filter, length};
 ghost use Rattle.bz_model.specs.Parting.{blocks_of};
 ghost use Rattle.bz_model.specs.Splits.{IsSplit};
 ghost use Rattle.bz_model.specs.Strict.{size_of};
+ghost use Rattle.bz_top.specs.Putting.{Puts};
 ghost use Rattle.bz_top.specs.Texts.{part_line, parts_text};
 
 use crate::pieces::Piece::{Count, Text};
@@ -35,9 +33,7 @@ fn size(split: &Split, part: u32) -> usize
 /// Puts the line of a part.
 fn put_part<O: Sink>(out: &mut O, split: &Split, part: u32, rows: u32) -> Result<(), PutFailed>
     requires { part ≤ blocks_of split.now.part }
-    ensures ok { OnOk result (WhereTold (Takes (part_line split.now part rows)) (O.taken out.old) (O.taken out.new)) }
-    ensures failed { OnErr result (WhereTold (TakesPrefix (part_line split.now part rows)) (O.taken out.old) (O.taken out.new)) }
-    ensures count { CountsFault result (O.faults out.old) (O.faults out.new) }
+    ensures { Puts O.taken O.faults out.old out.new (part_line split.now part rows) result }
 {
     put_pieces(
         out,
@@ -59,9 +55,7 @@ fn put_part<O: Sink>(out: &mut O, split: &Split, part: u32, rows: u32) -> Result
 pub(crate) fn put_parts<O: Sink>(out: &mut O, split: &Split, rows: &[u32]) -> Result<(), PutFailed>
     requires split { IsSplit split.now }
     requires rows { length rows.now ≡ blocks_of split.now.part + 1 }
-    ensures ok { OnOk result (WhereTold (Takes (parts_text split.now rows.now)) (O.taken out.old) (O.taken out.new)) }
-    ensures failed { OnErr result (WhereTold (TakesPrefix (parts_text split.now rows.now)) (O.taken out.old) (O.taken out.new)) }
-    ensures count { CountsFault result (O.faults out.old) (O.faults out.new) }
+    ensures { Puts O.taken O.faults out.old out.new (parts_text split.now rows.now) result }
 {
     for (part, count) in rows.iter().enumerate() {
         put_part(out, split, part as u32, *count)?;

@@ -1,25 +1,28 @@
 //! The top call.
-ghost use Rattle.std.specs.Prelude.{◌≡◌, ◌≢◌, ◌⊎◌, map};
+ghost use Rattle.std.specs.Prelude.{◌≡◌, ◌≢◌, ◌≤◌, ◌⊎◌, map, IfErr, IfOk};
 ghost use Rattle.std.specs.String.{string_bytes};
 ghost use Rattle.bz_io.specs.Desk.{IsSame};
 ghost use Rattle.bz_io.specs.Faults.{HasRisen};
 ghost use Rattle.bz_io.specs.Sink.{Takes};
 ghost use Rattle.bz_io.specs.Told.{WhereTold};
-ghost use Rattle.bz_top.specs.Claims.{EndsSettled, EndsSettledAsked, ShowsOf, ShowsAsked, RefusesJob, RefusesAsked, BreaksOff, BreaksOffAsked, BreaksOffUsage};
+ghost use Rattle.bz_top.specs.Claims.{BreaksOff, BreaksOffAsked, BreaksOffUsage, CountsFiles, EndsSettled, EndsSettledAsked, IsCause, IsOfJob, RefusesAsked, RefusesJob, Shown, ShowsAsked, ShowsOf};
 ghost use Rattle.bz_top.specs.Ends.{status_after as after_put, IsRefused};
 ghost use Rattle.bz_top.specs.Jobs.{IsJobless};
+ghost use Rattle.bz_top.specs.Loads.{EndsDecomposed, IsWhole};
+ghost use Rattle.bz_top.specs.Putting.{Puts};
 ghost use Rattle.bz_top.specs.Refusing.{Refuses};
-ghost use Rattle.bz_top.specs.Texts.{usage_text};
+ghost use Rattle.bz_top.specs.Texts.{said_text, usage_text};
 
 use crate::check::check_files;
 use crate::job::Job;
-use crate::loading::file_name;
 use crate::parting::split_files;
-use crate::print::{put_holds, put_refusal, put_usage};
+use crate::print::{put_holds, put_out_of_memory, put_refusal, put_usage};
 use crate::put_parts::put_parts;
+use crate::said::Said;
 use crate::status::{Refusal, Status};
 use crate::words::{WordsFault, read_words};
 use bz_io::{Desk, PutFailed, Sink};
+use bz_num::Items;
 use std::alloc::Global;
 
 /// The status after the last text: that of a write where the text could not be put whole.
@@ -36,8 +39,38 @@ fn status_after(put: Result<(), PutFailed>, status: Status) -> Status
 fn refuse<O: Sink>(out: &mut O, job: &Job, refusal: &Refusal) -> Status
     ensures { Refuses job.now refusal.now (O.taken out.old) (O.taken out.new) (O.faults out.old) (O.faults out.new) result }
 {
-    let put = put_refusal(out, refusal, file_name(job, refusal.file()));
-    status_after(put, refusal.status())
+    status_after(put_refusal(out, job, refusal), refusal.status())
+}
+
+/// What the job comes to, from its files.
+fn outcome<D: Desk>(alloc: Global, job: &Job, desk: &mut D) -> Result<Said, Refusal>
+    ensures of_job { IfOk result (IsOfJob job.now) }
+    ensures whole { IfOk result IsWhole }
+    ensures shown { IfOk result (Shown (D.held desk.old) job.now) }
+    ensures cause { IfErr result (IsCause (D.held desk.old) job.now) }
+    ensures decomposed { EndsDecomposed (D.held desk.old) job.now result }
+    ensures kept { WhereTold IsSame (D.held desk.old) (D.held desk.new) }
+    ensures count { CountsFiles result (D.faults desk.old) (D.faults desk.new) }
+{
+    match job {
+        Job::Check { .. } => Ok(Said::Holds(check_files(alloc, job, desk)?)),
+        Job::Split { .. } => {
+            let (split, rows) = split_files(alloc, job, desk)?;
+            let rows = Items::from_vec(rows);
+            Ok(Said::Parts { split, rows })
+        },
+    }
+}
+
+/// Puts what a job comes to.
+fn put_said<O: Sink>(out: &mut O, said: &Said) -> Result<(), PutFailed>
+    requires { IsWhole said.now }
+    ensures { Puts O.taken O.faults out.old out.new (said_text said.now) result }
+{
+    match said {
+        Said::Holds(holding) => put_holds(out, *holding),
+        Said::Parts { split, rows } => put_parts(out, split, rows.as_slice()),
+    }
 }
 
 /// Does the job: checks the certificate and prints whether it holds, or prints the parts of the split.
@@ -54,26 +87,19 @@ pub fn do_alone<D: Desk, O: Sink>(alloc: Global, job: &Job, desk: &mut D, out: &
     // The status that the files settle comes, unless a read or a write failed or there is no memory.
     ensures settled { EndsSettled (D.held desk.old) job.now result }
 
-    // A count of faults rises where the status says so, and else stays.
+    // A count of faults rises where the status says so, and else stays; the desk's never falls.
     ensures read { result ≡ Status.Read → HasRisen (D.faults desk.old) (D.faults desk.new) }
     ensures read_well { result ≢ Status.Read → result ≢ Status.Write → D.faults desk.new ≡ D.faults desk.old }
+    ensures no_fall { D.faults desk.old ≤ D.faults desk.new }
     ensures write { result ≡ Status.Write → HasRisen (O.faults out.old) (O.faults out.new) }
     ensures written_well { result ≢ Status.Write → O.faults out.new ≡ O.faults out.old }
 
     // No name is changed.
     ensures kept { WhereTold IsSame (D.held desk.old) (D.held desk.new) }
 {
-    match job {
-        Job::Check { .. } => match check_files(alloc, job, desk) {
-            Ok(holding) => status_after(put_holds(out, holding), Status::Done),
-            Err(refusal) => refuse(out, job, &refusal),
-        },
-        Job::Split { .. } => match split_files(alloc, job, desk) {
-            Ok((split, rows)) => {
-                status_after(put_parts(out, &split, rows.as_slice()), Status::Done)
-            },
-            Err(refusal) => refuse(out, job, &refusal),
-        },
+    match outcome(alloc, job, desk) {
+        Ok(said) => status_after(put_said(out, &said), Status::Done),
+        Err(refusal) => refuse(out, job, &refusal),
     }
 }
 
@@ -100,9 +126,10 @@ pub fn run<D: Desk, O: Sink>(alloc: Global, words: &[String], desk: &mut D, out:
     // The status that the files settle comes, unless a read or a write failed or there is no memory.
     ensures settled { EndsSettledAsked (map string_bytes words.now) (D.held desk.old) result }
 
-    // A count of faults rises where the status says so, and else stays.
+    // A count of faults rises where the status says so, and else stays; the desk's never falls.
     ensures read { result ≡ Status.Read → HasRisen (D.faults desk.old) (D.faults desk.new) }
     ensures read_well { result ≢ Status.Read → result ≢ Status.Write → D.faults desk.new ≡ D.faults desk.old }
+    ensures no_fall { D.faults desk.old ≤ D.faults desk.new }
     ensures write { result ≡ Status.Write → HasRisen (O.faults out.old) (O.faults out.new) }
     ensures written_well { result ≢ Status.Write → O.faults out.new ≡ O.faults out.old }
 
@@ -112,8 +139,6 @@ pub fn run<D: Desk, O: Sink>(alloc: Global, words: &[String], desk: &mut D, out:
     match read_words(alloc, words) {
         Ok(job) => do_alone(alloc, &job, desk, out),
         Err(WordsFault::Usage) => status_after(put_usage(out), Status::Usage),
-        Err(WordsFault::OutOfMemory) => {
-            status_after(put_refusal(out, &Refusal::Memory, ""), Status::Memory)
-        }
+        Err(WordsFault::OutOfMemory) => { status_after(put_out_of_memory(out), Status::Memory) }
     }
 }

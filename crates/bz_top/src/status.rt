@@ -83,7 +83,7 @@ pub(crate) enum Refusal {
 }
 
 impl Refusal {
-    ghost use Rattle.bz_top.specs.Ends.{file_of, status_of};
+    ghost use Rattle.bz_top.specs.Ends.{status_of};
 
     /// The status that the program ends with.
     pub(crate) fn status(&self) -> Status
@@ -96,18 +96,6 @@ impl Refusal {
             Refusal::Read(_) => Status::Read,
             Refusal::TooLong(_) => Status::TooLong,
             Refusal::Memory => Status::Memory,
-        }
-    }
-
-    /// The file that it is of; the model's where it is of none.
-    pub(crate) fn file(&self) -> File
-        ensures { result ≡ file_of self.now }
-    {
-        match self {
-            Refusal::Read(file) | Refusal::TooLong(file) => *file,
-            Refusal::Cert(_) | Refusal::Check(_) => File::Cert,
-            Refusal::Part(_) | Refusal::Split(_) => File::Part,
-            Refusal::Model(_) | Refusal::Memory => File::Model,
         }
     }
 }

@@ -12,58 +12,109 @@ const MODEL: &str =
 const TWO_LEAVES: &str =
     "bzcert 1\nverdict optimal\nmaster 1 1\neta 0\nblock 1 1 0\nvalue 2\ncuts 2\ncut 1 1 0 1 0 1 1 3\ncut 1 1 -3 1 1 0 -6 1 0 3\nsplit 0 0 1\nleaf 1 3 2 0 4 3 1\nleaf 1 2 2 1 2 2 1\nend\n";
 
-/// Texts in the place of others in that certificate, and what is printed.
-const CHANGES: [(&str, &str, &str); 17] = [
+/// Texts in the place of others in that certificate, how the check ends, and what is printed.
+const CHANGES: [(&str, &str, Status, &str); 17] = [
     // the text as it is
-    ("bzcert 1\n", "bzcert 1\n", "certificate holds: optimal 2\n"),
+    (
+        "bzcert 1\n",
+        "bzcert 1\n",
+        Status::Done,
+        "certificate holds: optimal 2\n",
+    ),
     // the sum has -3 at x where -2 is needed
-    ("0 4 3 1", "0 3 3 1", "certificate: Leaf 1\n"),
+    ("0 4 3 1", "0 3 3 1", Status::Cert, "certificate: Leaf 1\n"),
     // the two sides don't meet
-    ("split 0 0 1", "split 0 0 2", "certificate: Cover 0\n"),
+    (
+        "split 0 0 1",
+        "split 0 0 2",
+        Status::Cert,
+        "certificate: Cover 0\n",
+    ),
     // no integer column stands there
-    ("split 0 0 1", "split 1 0 1", "certificate: Cover 0\n"),
+    (
+        "split 0 0 1",
+        "split 1 0 1",
+        Status::Cert,
+        "certificate: Cover 0\n",
+    ),
     (
         "master 1 1",
         "master +1 1",
+        Status::Cert,
         "certificate line 3: 4 Number\n",
     ),
     (
         "master 1 1",
         "master 01 1",
+        Status::Cert,
         "certificate line 3: 4 Number\n",
     ),
-    ("value 2", "value -0", "certificate line 6: 4 Number\n"),
+    (
+        "value 2",
+        "value -0",
+        Status::Cert,
+        "certificate line 6: 4 Number\n",
+    ),
     // the last line is missing
-    ("end\n", "", "certificate line 12: 7 End\n"),
+    ("end\n", "", Status::Cert, "certificate line 12: 7 End\n"),
     // one leaf is missing
-    ("leaf 1 2 2 1 2 2 1\n", "", "certificate line 12: 6 Tree\n"),
+    (
+        "leaf 1 2 2 1 2 2 1\n",
+        "",
+        Status::Cert,
+        "certificate line 12: 6 Tree\n",
+    ),
     // one leaf too many
     (
         "end\n",
         "leaf 1 2 2 1 2 2 1\nend\n",
+        Status::Cert,
         "certificate line 13: 6 Tree\n",
     ),
-    ("end\n", "end x\n", "certificate line 13: 4 Number\n"),
-    ("value 2", "value 2 2", "certificate line 6: 3 Line\n"),
+    (
+        "end\n",
+        "end x\n",
+        Status::Cert,
+        "certificate line 13: 4 Number\n",
+    ),
+    (
+        "value 2",
+        "value 2 2",
+        Status::Cert,
+        "certificate line 6: 3 Line\n",
+    ),
     (
         "leaf 1 3 2 0 4 3 1",
         "leaf 0 1 1 -2",
+        Status::Cert,
         "certificate line 11: 4 Number\n",
     ),
-    ("cuts 2", "cuts 65536", "certificate line 7: 8 Limit\n"),
+    (
+        "cuts 2",
+        "cuts 65536",
+        Status::Cert,
+        "certificate line 7: 8 Limit\n",
+    ),
     // the inner cost of the block is above its eta
     (
         "eta 0\nblock 1 1 0\nvalue 2",
         "eta 0\nblock 1 1 1\nvalue 2",
+        Status::Cert,
         "certificate: Cost 1\n",
     ),
     // a factor of a block that makes a product wide
     (
         "block 1 1 0",
         "block 1 170141183460469231731687303715884105727 0",
+        Status::Cert,
         "certificate: Wide 5 0\n",
     ),
-    ("master 1 1", "master 2 2", "certificate: Value\n"),
+    (
+        "master 1 1",
+        "master 2 2",
+        Status::Cert,
+        "certificate: Value\n",
+    ),
 ];
 
 /// The certificate with the new text in the place of the old one.
@@ -73,14 +124,16 @@ fn changed(alloc: Global, old: &str, new: &str) -> Result<String, AllocError> {
 
 #[test]
 fn checks_a_tree_of_two_leaves(rt: HostRuntime) -> Result<(), Fail> {
-    for (old, new, text) in CHANGES {
+    for (old, new, status, text) in CHANGES {
+        assert!(rt; TWO_LEAVES.contains(old), "no {old}");
         let cert = changed(rt.alloc(), old, new)?;
         let case = Case {
             model: MODEL,
             cert: cert.as_str(),
             ..FIRST
         };
-        let (_, printed) = ends(rt.alloc(), &["check", "m", "p", "c"], &case)?;
+        let (ended, printed) = ends(rt.alloc(), &["check", "m", "p", "c"], &case)?;
+        assert_eq!(rt; ended, status, "at {new}");
         assert_eq!(rt; printed.as_slice(), text.as_bytes());
     }
     Ok(())

@@ -15,15 +15,15 @@ returns-in-Err-OutOfMemory-clause-refused g c =
     let words = map (λ w. string_bytes w) c.args.words.now in
     let held = g.D.Desk.held c.args.desk.now in
     let some : SomeJob words = rw c.in-Err-OutOfMemory.field-0-is at c.in-Err-OutOfMemory.ensures in
-    subst (λ (s : Status). IsRefused s → RefusesAsked words held s (g.O.Sink.taken c.args.out.now) (g.O.Sink.taken c.put_refusal.new.out))
+    subst (λ (s : Status). IsRefused s → RefusesAsked words held s (g.O.Sink.taken c.args.out.now) (g.O.Sink.taken c.put_out_of_memory.new.out))
     (sym c.status_after-in-Err-OutOfMemory.ensures)
-    (memory_refused c.put_refusal.result words held _ _ some c.put_refusal.ensures.ok)
+    (memory_refused c.put_out_of_memory.result words held _ _ some c.put_out_of_memory.ensures.ok)
 
 pub returns-in-Err-OutOfMemory-clause-written : goal.returns-in-Err-OutOfMemory-clause-written
 returns-in-Err-OutOfMemory-clause-written g c =
     let words = map (λ w. string_bytes w) c.args.words.now in
     let held = g.D.Desk.held c.args.desk.now in
     let some : SomeJob words = rw c.in-Err-OutOfMemory.field-0-is at c.in-Err-OutOfMemory.ensures in
-    subst (λ (s : Status). s ≡ status.Write → BreaksOffAsked words held (g.O.Sink.taken c.args.out.now) (g.O.Sink.taken c.put_refusal.new.out) ⊎ BreaksOffUsage words (g.O.Sink.taken c.args.out.now) (g.O.Sink.taken c.put_refusal.new.out))
+    subst (λ (s : Status). s ≡ status.Write → BreaksOffAsked words held (g.O.Sink.taken c.args.out.now) (g.O.Sink.taken c.put_out_of_memory.new.out) ⊎ BreaksOffUsage words (g.O.Sink.taken c.args.out.now) (g.O.Sink.taken c.put_out_of_memory.new.out))
     (sym c.status_after-in-Err-OutOfMemory.ensures)
-    (memory_written c.put_refusal.result words held _ _ some c.put_refusal.ensures.failed)
+    (memory_written c.put_out_of_memory.result words held _ _ some c.put_out_of_memory.ensures.failed)
