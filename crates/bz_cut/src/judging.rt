@@ -1,4 +1,5 @@
-//! Tests of sums, with whatever answers.
+//! Tests of sums, with whatever answers: `broken` where the numbers are not as tested, `wide` where a sum or a product
+//! that the test needs passes 2^127 - 1 in size. They take no memory.
 ghost use Rattle.std.specs.Prelude.{◌≡◌, ◌*ℤ◌, ◌≤ℤ◌, ℕ, ℤ, List, [], ◌∷◌, Ok, IfOk, IsTrue};
 ghost use Rattle.std.proofs.Math.IntN.{neg_ℤ};
 ghost use Rattle.bz_algebra.specs.Numbers.{IsNarrow};

@@ -10,7 +10,8 @@ use bz_facts::{MpsStop, read_facts};
 use bz_model::Model;
 use std::alloc::Global;
 
-/// Reads a model's text. It answers the text's model, or the text's fault with its line.
+/// Reads a model's text. It answers the text's model; or else the text's first fault with its line, or that there is no
+/// memory. The model has its columns, rows and names within their limits.
 pub fn read_mps(alloc: Global, text: &[u8]) -> Result<Model, MpsStop>
     requires { length text.now < 2 ^ 32 - 1 }
     ensures model { IfOk result (ModelOf text.now) }
