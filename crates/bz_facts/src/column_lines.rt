@@ -18,6 +18,12 @@ use crate::words::{field, is_marker};
 use bz_lines::Names;
 use std::alloc::AllocError;
 
+/// How many columns there may be.
+const MOST_COLUMNS: usize = 2048;
+
+/// How many entries there may be.
+const MOST_ENTRIES: usize = 65536;
+
 /// Whether the name is one of these.
 fn is_among(names: &Names, name: &[u8]) -> bool
     ensures { result ≡ among names.now name.now }
@@ -38,7 +44,7 @@ fn on_marker_line(columns: &mut Columns, fields: &[&[u8]]) -> Result<(), MpsKind
     if !(opens || closes) {
         return Err(MpsKind::Marker);
     }
-    if if columns.marked { opens } else { closes } {
+    if columns.marked == opens {
         return Err(MpsKind::MarkerOpen);
     }
     columns.marked = opens;
@@ -103,7 +109,7 @@ fn is_entry_length(count: usize) -> bool
 fn is_past_limit(full: bool, new: bool, entries: usize) -> bool
     ensures { result ≡ ((new && full) || nat_lt 65536 entries) }
 {
-    new && full || entries > 65536
+    new && full || entries > MOST_ENTRIES
 }
 
 /// Enters a column's pairs, where it is not split.
@@ -111,7 +117,7 @@ fn enter<'a>(columns: &mut Columns<'a>, name: &'a [u8], pairs: Pairs) -> Result<
     requires { length columns.old.names < 2 ^ 32 }
     ensures { let more = map (entry_in (place columns.old.names name.now)) (pairs_read pairs) in PassesLine (last_entry_tests columns.old name.now more) (λ _. EntriesAdded name.now more columns.old columns.new) result }
 {
-    let full = columns.names.len() >= 2048;
+    let full = columns.names.len() >= MOST_COLUMNS;
     let column = columns.names.add(name)?;
     let fresh = add_entries(&mut columns.entries, column.place as u32, pairs)?;
     if !fresh {

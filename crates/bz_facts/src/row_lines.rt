@@ -10,6 +10,9 @@ use crate::refusals::Refusal;
 use crate::tables::Rows;
 use crate::words::{field, row_type};
 
+/// How many rows that count there may be.
+const MOST_ROWS: usize = 2048;
+
 /// Whether a row of this kind counts for the limit.
 fn is_counted_row(row: RowType) -> bool
     ensures { result ≡ is_counted row }
@@ -34,7 +37,7 @@ pub(crate) fn on_row_line<'a>(rows: &mut Rows<'a>, fields: &[&'a [u8]]) -> Resul
     if !added.new {
         return Err(Refusal::Fault(MpsKind::DoubleName));
     }
-    if is_counted_row(row) && rows.types.counted() >= 2048 {
+    if is_counted_row(row) && rows.types.counted() >= MOST_ROWS {
         return Err(Refusal::Fault(MpsKind::Limit));
     }
     rows.types.push(row)?;

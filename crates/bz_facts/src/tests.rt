@@ -3,12 +3,12 @@ use crate::faults::{MpsFault, MpsKind, MpsStop};
 use crate::reading::read_facts;
 use crate::records::{BoundType, Facts};
 use bz_num::OutOfMemory;
-use std::alloc::Global;
+use std::alloc::{AllocError, Global};
 use std::test::Fail;
 
 /// The fault of a text, if it has one.
 fn fault_of(alloc: Global, text: &[u8]) -> Result<Option<MpsFault>, OutOfMemory> {
-    if text.len() > 1000 {
+    if text.len() > 1_000_000 {
         return Ok(None);
     }
     match read_facts(alloc, text) {
@@ -191,6 +191,60 @@ fn faults_are_the_worked_ones(rt: HostRuntime) -> Result<(), Fail> {
             })
         );
     }
+    Ok(())
+}
+
+/// Adds a line with a name of three letters, which is that of its number below 17,576.
+fn add_line(
+    text: &mut Vec<u8>,
+    before: &[u8],
+    number: usize,
+    behind: &[u8],
+) -> Result<(), AllocError> {
+    text.extend_from_slice(before)?;
+    text.push((number / 676 % 26) as u8 + b'a')?;
+    text.push((number / 26 % 26) as u8 + b'a')?;
+    text.push((number % 26) as u8 + b'a')?;
+    text.extend_from_slice(behind)?;
+    Ok(())
+}
+
+/// A text of so many rows that count.
+fn with_rows(alloc: Global, rows: usize) -> Result<Vec<u8>, AllocError> {
+    let mut text = Vec::from_slice(alloc, b"ROWS\n N C\n")?;
+    for row in 0..rows {
+        add_line(&mut text, b" G ", row, b"\n")?;
+    }
+    Ok(text)
+}
+
+/// A text of so many columns.
+fn with_columns(alloc: Global, columns: usize) -> Result<Vec<u8>, AllocError> {
+    let mut text = Vec::from_slice(alloc, b"ROWS\n N C\nCOLUMNS\n")?;
+    for column in 0..columns {
+        add_line(&mut text, b" ", column, b" C 1\n")?;
+    }
+    Ok(text)
+}
+
+#[test]
+fn limits_are_told(rt: HostRuntime) -> Result<(), Fail> {
+    let rows = with_rows(rt.alloc(), 2049)?;
+    assert_eq!(rt;
+        fault_of(rt.alloc(), rows.as_slice())?,
+        Some(MpsFault {
+            line: 2051,
+            kind: MpsKind::Limit
+        })
+    );
+    let columns = with_columns(rt.alloc(), 2049)?;
+    assert_eq!(rt;
+        fault_of(rt.alloc(), columns.as_slice())?,
+        Some(MpsFault {
+            line: 2052,
+            kind: MpsKind::Limit
+        })
+    );
     Ok(())
 }
 

@@ -1,5 +1,5 @@
 //! The columns of a model, from facts.
-ghost use Rattle.std.specs.Prelude.{◌≡◌, ◌++◌, ◌∷◌, [], IfOk, flat_map, zip};
+ghost use Rattle.std.specs.Prelude.{◌≡◌, IfOk, flat_map, zip};
 ghost use Rattle.std.specs.List.{AllByRecursion, AllZip, enumerate_from};
 ghost use Rattle.std.specs.Option.{ForSome};
 ghost use Rattle.bz_facts.specs.SoundFacts.{AreSound, IsFinite};
@@ -8,7 +8,7 @@ ghost use Rattle.bz_mps.specs.FactModel.{IsColumnOf, IsColumnWith, end_tests_at_
 ghost use Rattle.bz_mps.specs.TestAnswers.{Tests};
 
 use crate::column_ends::{bound_of, ends_of, is_integer, test_ends};
-use crate::placing::by_place;
+use crate::placing::{by_place, push_item};
 use bz_facts::{BoundLine, Facts, MpsStop};
 use bz_model::Column;
 use bz_num::Name;
@@ -43,14 +43,6 @@ fn column_of(
     })
 }
 
-/// Adds a column at the end.
-fn push_column(columns: &mut Vec<Column>, column: Column) -> Result<(), AllocError>
-    ensures { IfOk result (λ _. columns.new.items ≡ columns.old.items ++ column ∷ []) }
-{
-    columns.push(column)?;
-    Ok(())
-}
-
 /// The columns that facts make.
 pub(crate) fn columns_of(alloc: Global, facts: &Facts) -> Result<Vec<Column>, MpsStop>
     requires { AreSound facts.now }
@@ -63,7 +55,7 @@ pub(crate) fn columns_of(alloc: Global, facts: &Facts) -> Result<Vec<Column>, Mp
     for place in 0..marks.len() {
         let name = facts.columns.at(place);
         let column = column_of(alloc, name, marks[place], lines[place].as_slice())?;
-        push_column(&mut columns, column)?;
+        push_item(&mut columns, column)?;
     }
     Ok(columns)
 }

@@ -17,7 +17,6 @@ mod rows_made;
 mod scaling;
 
 pub use bz_facts::{MpsFault, MpsKind, MpsStop};
-pub use making::model_of;
 pub use model_laws::{
     model_scales_are_least, models_fit, mps_text_has_model_or_fault, mps_text_has_one_fault,
     mps_text_has_one_model, scale_is_least,

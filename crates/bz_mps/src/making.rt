@@ -14,7 +14,7 @@ use std::alloc::Global;
 
 /// The model that facts make, or the first end test that fails: of the columns in order, an upper bound that is negative by
 /// itself and then crossed bounds, and then a wide number of the objective and of the rows in order.
-pub fn model_of(alloc: Global, facts: &Facts) -> Result<Model, MpsStop>
+pub(crate) fn model_of(alloc: Global, facts: &Facts) -> Result<Model, MpsStop>
     requires { AreSound facts.now }
     ensures model { IfOk result (IsModelOf facts.now) }
     ensures tests { Tests (end_tests facts.now) result }

@@ -42,7 +42,7 @@ impl Placed for BoundLine {
 }
 
 /// Adds an item at the end.
-fn push_item<T: Drop>(items: &mut Vec<T>, item: T) -> Result<(), AllocError>
+pub(crate) fn push_item<T: Drop>(items: &mut Vec<T>, item: T) -> Result<(), AllocError>
     ensures { IfOk result (λ _. items.new.items ≡ items.old.items ++ item ∷ []) }
 {
     items.push(item)?;

@@ -1,5 +1,5 @@
 //! The rows and the objective of a model, from facts.
-ghost use Rattle.std.specs.Prelude.{◌≡◌, ◌<◌, ◌++◌, ◌∷◌, [], ◌||◌, false, true, length, position, map, None, IfOk};
+ghost use Rattle.std.specs.Prelude.{◌≡◌, ◌<◌, ◌∷◌, [], ◌||◌, false, true, length, position, map, None, IfOk};
 ghost use Rattle.std.specs.List.{AllZip, list_any};
 ghost use Rattle.bz_num.specs.Fold.{is_wide};
 ghost use Rattle.std.proofs.Math.IntN.{neg_ℤ};
@@ -12,6 +12,7 @@ ghost use Rattle.bz_mps.specs.TestAnswers.{Tests};
 
 use crate::bound_numbers::power_of_ten;
 use crate::columns_made::name_of;
+use crate::placing::push_item;
 use crate::row_facts::{ByRow, first_number, number_or_zero};
 use crate::row_sides::sides_of;
 use crate::row_terms::{digits_of_row, terms_of};
@@ -77,14 +78,6 @@ fn row_at(
     row_of(alloc, facts.row_names.at(place), kind, entries, rhs, range)
 }
 
-/// Adds a row at the end.
-fn push_row(rows: &mut Vec<Row>, row: Row) -> Result<(), AllocError>
-    ensures { IfOk result (λ _. rows.new.items ≡ rows.old.items ++ row ∷ []) }
-{
-    rows.push(row)?;
-    Ok(())
-}
-
 /// The rows but those of kind N, where no number of them is wide.
 pub(crate) fn rows_of(alloc: Global, facts: &Facts, by_row: &ByRow) -> Result<Vec<Row>, MpsStop>
     requires sound { AreSound facts.now }
@@ -106,7 +99,7 @@ pub(crate) fn rows_of(alloc: Global, facts: &Facts, by_row: &ByRow) -> Result<Ve
                 kind: MpsKind::TooWide,
             }));
         };
-        push_row(&mut rows, row)?;
+        push_item(&mut rows, row)?;
     }
     Ok(rows)
 }

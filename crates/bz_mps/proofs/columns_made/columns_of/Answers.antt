@@ -28,7 +28,7 @@ loop-place-preserved c =
     ∙ ap (lines_at c.loop-place.place) c.as_slice.ensures in
     record {
       columns = column_added c.args.facts.now.bounds c.args.facts.now.columns c.as_slice-marks.result.now c.args.facts.now.integers c.as_slice-in-loop-place.result.now c.at-name.result.now c.loop-place.place
-          c.loop-place.columns.items c.push_column.new.columns.items c.in_ok-column.column (sym c.requires.integers) c.as_slice-marks.ensures c.loop-place-test.true lines c.at-name.ensures c.loop-place.invariant.columns c.in_ok-column.ensures.column c.in_ok-push_column.ensures;
+          c.loop-place.columns.items c.push_item.new.items.items c.in_ok-column.column (sym c.requires.integers) c.as_slice-marks.ensures c.loop-place-test.true lines c.at-name.ensures c.loop-place.invariant.columns c.in_ok-column.ensures.column c.in_ok-push_item.ensures;
       passed = column_passes c.args.facts.now.bounds c.as_slice-marks.result.now c.args.facts.now.integers c.as_slice-in-loop-place.result.now c.loop-place.place c.as_slice-marks.ensures c.loop-place-test.true lines c.loop-place.invariant.passed c.in_ok-column.ensures.tests;
     }
 

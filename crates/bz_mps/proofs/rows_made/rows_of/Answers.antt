@@ -24,7 +24,7 @@ loop-place-preserved c =
     let free = sym c.is_free.ensures ∙ c.if-is_free.false in
     let here = unless_some _ (IsRowOf c.args.facts.now (c.loop-place.place, get_or c.as_slice-kinds.result.now c.loop-place.place Free)) c.in_ok-row.row c.in-Some.row c.in-Some.is c.in_ok-row.ensures in
     record {
-      rows = row_added c.args.facts.now c.loop-place.place _ c.loop-place.rows.items c.push_row.new.rows.items c.in-Some.row inside read free c.loop-place.invariant.rows here.1 c.in_ok-push_row.ensures;
+      rows = row_added c.args.facts.now c.loop-place.place _ c.loop-place.rows.items c.push_item.new.items.items c.in-Some.row inside read free c.loop-place.invariant.rows here.1 c.in_ok-push_item.ensures;
       passed = row_passes c.args.facts.now c.loop-place.place _ inside read free c.loop-place.invariant.passed here.0;
     }
 
