@@ -2,10 +2,10 @@
 use Rattle.std.specs.Prelude.{ℕ, zero, suc, ◌≡◌, ◌+◌, ◌<◌, ◌≤◌, List, [], ◌∷◌, ◌++◌, length, drop, Result, Ok, Err}
 use Rattle.std.specs.List.{AllByRecursion, enumerate_from}
 use Rattle.std.specs.Result.{IsErrAnd}
-use Rattle.std.proofs.Common.{refl, sym, ◌∙◌, ap, subst, get_or, arith}
+use Rattle.std.proofs.Common.{refl, ◌∙◌, ap, subst, get_or, arith}
 use Rattle.std.proofs.lemmas.List.FromFn.{get_or-enumerate_from, length-enumerate_from}
 use Rattle.bz_model.proofs.Sparse.{left_at, none_left}
-use Rattle.bz_cut.specs.Tests.{Test, AllHold, IsFirstFault, Judges, each_of, each_below}
+use Rattle.bz_cut.specs.Tests.{Test, AllHold, IsFirstFault, Judges, each_of}
 use Rattle.bz_cut.proofs.TestLemmas.{Reduces, fault_in_front, items_end, items_fault, items_next}
 
 -- a fault that is passed on
