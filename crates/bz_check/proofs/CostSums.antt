@@ -1,12 +1,12 @@
 -- Sums of a part's inner cost at a point, entry by entry.
-use Rattle.std.proofs.Common.{◌≡◌, refl, sym, ◌∙◌, ap, subst, ℕ, ◌+◌, ◌<◌, ◌≤◌, Bool, true, false, cond, List, [], ◌∷◌, ◌++◌, length, arith, ℤ, pos, ◌+ℤ◌, ◌*ℤ◌, neg_ℤ, Result, Ok, Err, append-nil}
+use Rattle.std.proofs.Common.{◌≡◌, refl, sym, ◌∙◌, ap, ℕ, ◌+◌, ◌≤◌, true, false, List, [], ◌∷◌, ◌++◌, arith, ℤ, pos, ◌+ℤ◌, ◌*ℤ◌, Result, Ok, Err, append-nil}
 use Rattle.std.specs.Result.{IsErrAnd}
 use Rattle.bz_algebra.specs.Sums.{AllBelow, coef}
 use Rattle.bz_num.specs.declared.WideSum.{WideSum}
-use Rattle.bz_num.specs.Fold.{Taken, fold_from, fold_of, goes_wide, pairs_at}
+use Rattle.bz_num.specs.Fold.{Taken, fold_from, fold_of, goes_wide}
 use Rattle.bz_num.specs.Row.{IsSparse}
 use Rattle.bz_num.proofs.Folds.{fold_from-step, fold_from-stop}
-use Rattle.bz_model.specs.Parting.{width_of, inner_cost, negated, terms_in}
+use Rattle.bz_model.specs.Parting.{width_of, inner_cost, terms_in}
 use Rattle.bz_model.specs.Points.{coordinate}
 use Rattle.bz_model.specs.Splits.{Decomposition, IsSplit}
 use Rattle.bz_model.proofs.Sparse.{sparse_negated, sparse_terms_in}

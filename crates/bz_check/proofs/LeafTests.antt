@@ -1,6 +1,6 @@
 -- Lists of tests as a loop and a chain of calls come to them.
-use Rattle.std.proofs.Common.{◌≡◌, subst, ℕ, suc, ◌+◌, ◌∷◌, ◌++◌, List, Result, arith, inr}
-use Rattle.bz_cut.specs.Tests.{AllHold, IsFirstFault, Judges, Test, each_below}
+use Rattle.std.proofs.Common.{◌+◌, ◌∷◌, ◌++◌, List, Result, inr}
+use Rattle.bz_cut.specs.Tests.{AllHold, IsFirstFault, Judges, Test}
 use Rattle.bz_cut.proofs.TestLemmas.{all_joined, fault_behind, fault_in_front, judges_then}
 
 -- ---- one test and four lists of tests behind it

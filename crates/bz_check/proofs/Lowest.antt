@@ -1,5 +1,5 @@
 -- A fraction in lowest terms is reduced.
-use Rattle.std.proofs.Common.{ℕ, ℤ, ◌*◌, ◌≡◌}
+use Rattle.std.proofs.Common.{ℤ}
 use Rattle.std.specs.Int.{◌∣◌}
 use Rattle.std.specs.Int.RustNames.{unsigned_abs}
 use Rattle.std.proofs.Math.Nat.{dvd-mul_right}

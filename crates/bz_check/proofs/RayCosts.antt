@@ -1,12 +1,10 @@
 -- The inner cost along a direction, entry by entry.
-use Rattle.std.proofs.Common.{◌≡◌, refl, sym, ◌∙◌, ap, ℕ, zero, suc, ◌+◌, ◌<◌, Bool, true, false, cond, List, [], ◌∷◌, length, get_or, drop, arith, ℤ, ◌+ℤ◌, ◌*ℤ◌, neg_ℤ, Result, Ok, Err}
+use Rattle.std.proofs.Common.{◌≡◌, refl, sym, ◌∙◌, ap, ℕ, ◌+◌, ◌<◌, Bool, true, false, cond, List, ◌∷◌, length, get_or, drop, ℤ, ◌+ℤ◌, ◌*ℤ◌, neg_ℤ, Result, Ok, Err}
 use Rattle.std.specs.List.{AllByRecursion}
 use Rattle.std.specs.Result.{IsErrAnd}
-use Rattle.bz_algebra.specs.Numbers.{IsNarrow}
 use Rattle.bz_algebra.specs.Sums.{AllBelow}
 use Rattle.bz_num.specs.declared.WideSum.{WideSum}
 use Rattle.bz_num.specs.Fold.{fold_from, goes_wide}
-use Rattle.bz_num.specs.Row.{IsSparseFrom}
 use Rattle.bz_num.proofs.Folds.{fold_from-step, fold_from-stop}
 use Rattle.bz_model.specs.declared.Model.{Model}
 use Rattle.bz_model.specs.Parting.{negated}

@@ -1,5 +1,5 @@
 -- What the tests of a certificate tell of it.
-use Rattle.std.specs.Prelude.{pos, ◌≡◌, ◌⊎◌, List, [], Result, Ok, Err, IfErr, IfOk}
+use Rattle.std.specs.Prelude.{pos, ◌≡◌, ◌⊎◌, [], Result, Ok, Err, IfErr, IfOk}
 use Rattle.std.proofs.Common.{ap, inl, inr, refl}
 use Rattle.bz_model.specs.Splits.{Decomposition, IsSplit}
 use Rattle.bz_cut.specs.Tests.{JudgesUnless}

@@ -1,6 +1,5 @@
 //! Whether integer columns are whole at the master's point, and within the box of the whole model.
-ghost use Rattle.std.specs.Prelude.{◌≡◌, ◌+◌, ◌*◌, ◌<◌, ◌≤◌, ◌^◌, pos, ◌+ℤ◌, ◌*ℤ◌, ◌<ℤ◌, length, map};
-ghost use Rattle.std.specs.Int.RustNames.{unsigned_abs};
+ghost use Rattle.std.specs.Prelude.{◌≡◌, ◌+◌, ◌*◌, ◌<◌, ◌^◌, pos, ◌<ℤ◌, length, map};
 ghost use Rattle.std.specs.List.{enumerate_from};
 ghost use Rattle.bz_model.specs.Parting.{inequalities_of, integers_of, position_of, width_of};
 ghost use Rattle.bz_model.specs.Points.{coordinate};

@@ -1,8 +1,6 @@
 //! Whether the objective improves without end along a certificate's direction.
-ghost use Rattle.std.specs.Prelude.{◌≡◌, ◌↔◌, ◌<◌, ◌^◌, pos, ◌<ℤ◌, ◌≤ℤ◌, [], ◌∷◌, IfSome, IfOk, IsTrue, length, if◌then◌else◌};
+ghost use Rattle.std.specs.Prelude.{◌≡◌, ◌↔◌, ◌<◌, ◌^◌, pos, ◌<ℤ◌, ◌≤ℤ◌, [], ◌∷◌, IfSome, IfOk, IsTrue, length};
 ghost use Rattle.std.specs.List.{AllByRecursion, enumerate_from};
-ghost use Rattle.std.proofs.Math.IntN.{neg_ℤ};
-ghost use Rattle.bz_algebra.specs.Numbers.{IsNarrow};
 ghost use Rattle.bz_algebra.specs.Sums.{AllBelow, dot};
 ghost use Rattle.bz_num.specs.Fold.{IsNarrowSum, fold_of};
 ghost use Rattle.bz_model.specs.Parting.{inner_cost};

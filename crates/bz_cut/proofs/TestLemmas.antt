@@ -1,7 +1,6 @@
 -- Lists of tests: their ends, their fronts, and the tests of many items.
 use Rattle.std.specs.Prelude.{ℕ, zero, suc, ◌+◌, ◌≡◌, ◌<◌, ◌≤◌, ◌⊎◌, List, [], ◌∷◌, ◌++◌, Result, Ok, Err, ◌↔◌, IsTrue, is_ok, length, drop, get_or}
-use Rattle.std.specs.List.{enumerate_from}
-use Rattle.std.proofs.Common.{refl, ap, ◌∙◌, subst, arith, inl, inr}
+use Rattle.std.proofs.Common.{refl, ap, subst, arith, inl, inr}
 use Rattle.bz_model.proofs.Sparse.{left_at, none_left}
 use Rattle.bz_cut.specs.Tests.{Test, AllHold, IsFirstFault, Judges, answered, each_below, each_of, test}
 
@@ -152,24 +151,3 @@ items_fault tests xs i d all f l h r = reduces_fault (tests (get_or xs i d)) (ea
 
 pub items_end : {F X : Type 0} (tests : X → List (Test F)) (xs : List X) (i : ℕ) (all : List (Test F)) → length xs ≤ i → Reduces (each_of tests (drop i xs)) all → AllHold all
 items_end tests xs i all l r = r.hold (rw (each_of_none tests xs i l) tt)
-
--- the same of items with their numbers, from n on
-pub length-numbered : {X : Type 0} (n : ℕ) (xs : List X) → length (enumerate_from n xs) ≡ length xs
-length-numbered n [] = refl
-length-numbered n (x ∷ xs) = ap suc (length-numbered (n + 1) xs)
-
-pub numbered_at : {X : Type 0} (n : ℕ) (xs : List X) (i k : ℕ) (d : X) → i < length xs → get_or (enumerate_from n xs) i (k, d) ≡ (n + i, get_or xs i d)
-numbered_at n [] i k d l = absurd (omega arith)
-numbered_at n (x ∷ xs) zero k d l = let e : n ≡ n + 0 = omega arith in ap (λ (j : ℕ). (j, x)) e
-numbered_at n (x ∷ xs) (suc i) k d l =
-    let e : n + 1 + i ≡ n + suc i = omega arith in
-    numbered_at (n + 1) xs i k d (omega arith) ∙ ap (λ (j : ℕ). (j, get_or xs i d)) e
-
-pub numbered_next : {F X : Type 0} (tests : ℕ × X → List (Test F)) (n : ℕ) (xs : List X) (i : ℕ) (d : X) (all : List (Test F)) → i < length xs → AllHold (tests (n + i, get_or xs i d)) → Reduces (each_of tests (drop i (enumerate_from n xs))) all → Reduces (each_of tests (drop (i + 1) (enumerate_from n xs))) all
-numbered_next tests n xs i d all l h r = items_next tests (enumerate_from n xs) i (0, d) all (rw (length-numbered n xs) l) (rw (numbered_at n xs i 0 d l) h) r
-
-pub numbered_fault : {F X : Type 0} (tests : ℕ × X → List (Test F)) (n : ℕ) (xs : List X) (i : ℕ) (d : X) (all : List (Test F)) (f : F) → i < length xs → IsFirstFault (tests (n + i, get_or xs i d)) f → Reduces (each_of tests (drop i (enumerate_from n xs))) all → IsFirstFault all f
-numbered_fault tests n xs i d all f l h r = items_fault tests (enumerate_from n xs) i (0, d) all f (rw (length-numbered n xs) l) (rw (numbered_at n xs i 0 d l) h) r
-
-pub numbered_end : {F X : Type 0} (tests : ℕ × X → List (Test F)) (n : ℕ) (xs : List X) (i : ℕ) (all : List (Test F)) → length xs ≤ i → Reduces (each_of tests (drop i (enumerate_from n xs))) all → AllHold all
-numbered_end tests n xs i all l r = items_end tests (enumerate_from n xs) i all (rw (length-numbered n xs) l) r

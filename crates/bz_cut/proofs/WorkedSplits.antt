@@ -1,5 +1,5 @@
 -- The worked models of the tests are strict.
-use Rattle.std.specs.Prelude.{ℕ, ℤ, zero, suc, ◌<◌, ◌≤◌, ◌≡◌, Contains, List, [], ◌∷◌, length, pos}
+use Rattle.std.specs.Prelude.{ℕ, ℤ, zero, suc, ◌<◌, ◌≤◌, ◌≡◌, Contains, List, [], ◌∷◌, length}
 use Rattle.std.specs.List.{AllByRecursion, enumerate_from}
 use Rattle.std.proofs.Common.{refl, arith, inl, inr}
 use Rattle.std.proofs.lemmas.Bool.{OnTrue_from, both_ways}

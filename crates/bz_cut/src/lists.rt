@@ -49,7 +49,8 @@ pub fn width(split: &Split, part: u32) -> u32
     split.columns_of(part).len() as u32
 }
 
-/// A number of the cost in the cost that is minimised. It takes no memory.
+/// What a number of the model's cost is in the cost that is minimised: the other way round where the model maximises. It
+/// takes no memory.
 pub fn inner_number(maximise: bool, number: i128) -> i128
     requires { IsNarrow number }
     ensures value { result ≡ (if maximise then neg_ℤ number else number) }

@@ -1,5 +1,4 @@
-use Rattle.std.proofs.Common.{rules, ◌≡◌, ◌∙◌, ap, ℕ, List, [], ◌∷◌, arith}
-use Rattle.bz_model.specs.Strict.{HasItsColumns, IsPartition, IsStrict}
+use Rattle.std.proofs.Common.{arith}
 use Rattle.bz_model.proofs.WorkedModel.{two_columns}
 use Rattle.bz_cut.proofs.WorkedSplits.{linked_indexes, linked_partition, linked_strict}
 use Rattle.bz_cut.proofs.tests.split.Goals as goal
