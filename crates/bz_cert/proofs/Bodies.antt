@@ -27,7 +27,7 @@ pass_apart verdict before (l ∷ ls) ms h =
     ((h.0, later.0), later.1)
 
 -- no number of the values of a sparse list is wide
-sparse_narrow : (low : ℕ) (es : List (ℕ × ℤ)) → IsSparseFrom low es → AllByRecursion (λ e. IsNarrow e.1) es
+pub sparse_narrow : (low : ℕ) (es : List (ℕ × ℤ)) → IsSparseFrom low es → AllByRecursion (λ e. IsNarrow e.1) es
 sparse_narrow low [] h = tt
 sparse_narrow low (e ∷ es) h = (h.0.narrow, sparse_narrow (suc e.0) es h.1)
 

@@ -16,6 +16,7 @@ use Rattle.std.specs.Prelude.{IsErrAnd}
 use Rattle.bz_cert.proofs.Refusals.{handed_on}
 use Rattle.bz_cert.proofs.SparseLists.{not_empty}
 use Rattle.bz_cert.proofs.NumberTexts.{begins_stops, same_spelling}
+use Rattle.bz_cert.proofs.TextLines.{same_line as same_bytes_same_line}
 use Rattle.bz_cert.proofs.WordTexts.{no_blank, same_word, spelled_apart}
 
 word_of_line : (line : List ℕ) (w : Word) (ns : List ℤ) → IsLineOf line w ns → HasWord line w
@@ -24,13 +25,8 @@ word_of_line line w ns h = record { behind = spelled ns; laid_out = h.spelling; 
 -- a line is of one word and numbers
 same_line : (line : List ℕ) (v w : Word) (ms ns : List ℤ) → IsLineOf line v ms → IsLineOf line w ns → (v ≡ w) × (ms ≡ ns)
 same_line line v w ms ns h k =
-    let words : v ≡ w = same_word line v w (word_of_line line v ms h) (word_of_line line w ns k) in
-    let first : line ≡ word_bytes w ++ spelled ms = subst (λ (x : Word). line ≡ word_bytes x ++ spelled ms) words h.spelling in (
-      words,
-      same_spelling (spelled ns) ms ns
-          (record { spelling = append_cancel_left (word_bytes w) _ _ (sym k.spelling ∙ first); narrow = h.narrow })
-          (record { spelling = refl; narrow = k.narrow }),
-    )
+    let e : line_with v ms ≡ line_with w ns = same_bytes_same_line (line_with v ms) (line_with w ns) h.narrow k.narrow (sym h.spelling ∙ k.spelling) in
+    (ap (λ l. l.word) e, ap (λ l. l.numbers) e)
 
 -- the tests of a line that is not behind the last one
 first_of_tests : (last : Option Word) (verdict : Verdict) (before : Standing) (line : List ℕ) (kind : CertKind) → last ≢ Some Word.End →

@@ -1,11 +1,7 @@
 -- Lemmas on lists.
 use Rattle.std.proofs.Common.{Bool, false, IsTrue, ◌↔◌, ◌≡◌, ◌∙◌, List, [], ◌∷◌, ◌++◌, ap, drop, get_or, refl, subst, sym}
 use Rattle.std.specs.List.{AllByRecursion}
-
--- what holds of each of two lists holds of the two joined
-pub all_joined : {X : Type 0} (P : X → Type 0) (xs ys : List X) → AllByRecursion P xs → AllByRecursion P ys → AllByRecursion P (xs ++ ys)
-all_joined P [] ys h k = k
-all_joined P (x ∷ xs) ys h k = (h.0, all_joined P xs ys h.1 k)
+use Rattle.bz_model.proofs.MeetingParts.{all_append, all_back, all_front}
 
 -- P does not hold of the first item, where there is one
 abbrev pub Stops : {X : Type 0} → (X → Type 0) → List X → Type 0
@@ -28,14 +24,14 @@ same_until P (x ∷ xs) (y ∷ ys) us vs p q a b e =
     let rest : (xs ≡ ys) × (us ≡ vs) = same_until P xs ys us vs p.1 q.1 a b (same_tail x y _ _ e) in
     (ap (λ z. z ∷ xs) (same_head x y _ _ e) ∙ ap (λ zs. y ∷ zs) rest.0, rest.1)
 
+-- what holds of two lists joined holds of each
 pub all_apart : {X : Type 0} (P : X → Type 0) (xs ys : List X) → AllByRecursion P (xs ++ ys) → AllByRecursion P xs × AllByRecursion P ys
-all_apart P [] ys h = (tt, h)
-all_apart P (x ∷ xs) ys h = let rest : AllByRecursion P xs × AllByRecursion P ys = all_apart P xs ys h.1 in ((h.0, rest.0), rest.1)
+all_apart P xs ys h = (all_front P xs ys h, all_back P xs ys h)
 
 -- a test of two lists one after the other, where it holds of the first
 pub also_second : {X : Type 0} (P : X → Type 0) (xs ys : List X) (b : Bool) → AllByRecursion P xs → (IsTrue b ↔ AllByRecursion P ys) →
     (IsTrue b ↔ AllByRecursion P (xs ++ ys))
-also_second P xs ys b h k = (λ t. all_joined P xs ys h (k.0 t), λ all. k.1 (all_apart P xs ys all).1)
+also_second P xs ys b h k = (λ t. all_append P xs ys h (k.0 t), λ all. k.1 (all_apart P xs ys all).1)
 
 -- a test of two lists one after the other, where it fails of the first
 pub not_first : {X : Type 0} (P : X → Type 0) (xs ys : List X) (b : Bool) → b ≡ false → (IsTrue b ↔ AllByRecursion P xs) →

@@ -11,7 +11,8 @@ use Rattle.std.proofs.lemmas.Str.Parse.{IsNumeralModel, digit_from_value, parse_
 use Rattle.std.proofs.lemmas.Bool.{eqb-true}
 use Rattle.std.proofs.lemmas.Int.{ints}
 use Rattle.bz_algebra.specs.Numbers.{IsNarrow}
-use Rattle.bz_cert.proofs.ListLemmas.{Stops, all_joined, same_tail, same_until}
+use Rattle.bz_model.proofs.MeetingParts.{all_append, all_then}
+use Rattle.bz_cert.proofs.ListLemmas.{Stops, same_tail, same_until}
 use Rattle.bz_cert.specs.CertFaults.{BeginsWith}
 use Rattle.bz_cert.specs.CertReading.{AreNumbers, IsSpelled}
 use Rattle.bz_cert.specs.CertText.{spelled}
@@ -30,18 +31,14 @@ digits_all : (ds : List ℕ) → AllDigits 10 ds → AllByRecursion (λ b. 48 �
 digits_all [] h = tt
 digits_all (d ∷ ds) h = (omega (arith, digit_from_value d h.0), digits_all ds h.1)
 
-pub all_also : (P Q : ℕ → Type 0) (xs : List ℕ) → ((x : ℕ) → P x → Q x) → AllByRecursion P xs → AllByRecursion Q xs
-all_also P Q [] f h = tt
-all_also P Q (x ∷ xs) f h = (f x h.0, all_also P Q xs f h.1)
-
 -- the bytes of a number are `-` and digits
 pub digits_from : (z : ℤ) → IsNarrow z → AllByRecursion (λ b. 45 ≤ b) (signed_decimal z)
-digits_from (pos n) h = all_also (λ b. 48 ≤ b) (λ b. 45 ≤ b) (decimal n) (λ b l. omega arith)
-    (digits_all (decimal n) (decimal_is_IsNumeral_wide n (pos_size n h)).0.1)
+digits_from (pos n) h = all_then (λ b. 48 ≤ b) (λ b. 45 ≤ b) (decimal n)
+    (digits_all (decimal n) (decimal_is_IsNumeral_wide n (pos_size n h)).0.1) (λ b l. omega arith)
 digits_from (negsuc n) h = (
   omega arith,
-  all_also (λ b. 48 ≤ b) (λ b. 45 ≤ b) (decimal (suc n)) (λ b l. omega arith)
-      (digits_all (decimal (suc n)) (decimal_is_IsNumeral_wide (suc n) (neg_size n h)).0.1),
+  all_then (λ b. 48 ≤ b) (λ b. 45 ≤ b) (decimal (suc n))
+      (digits_all (decimal (suc n)) (decimal_is_IsNumeral_wide (suc n) (neg_size n h)).0.1) (λ b l. omega arith),
 )
 
 -- the first byte of digits
@@ -158,7 +155,7 @@ field_is : (rest behind field after : List ℕ) (n : ℤ) (ns : List ℤ) → re
 field_is rest behind field after n ns blank cut before from_there are =
     let e : field ++ after ≡ signed_decimal n ++ spelled ns = sym cut ∙ same_tail 32 32 _ _ (sym blank ∙ are.spelling) in
     same_until (λ b. b ≢ 32) field (signed_decimal n) after (spelled ns) before
-    (all_also (λ b. 45 ≤ b) (λ b. b ≢ 32) (signed_decimal n) (λ b l e. absurd (omega arith)) (digits_from n are.narrow.0))
+    (all_then (λ b. 45 ≤ b) (λ b. b ≢ 32) (signed_decimal n) (digits_from n are.narrow.0) (λ b l e. absurd (omega arith)))
     (begins_stops 32 after from_there) (spelled_stops ns) e
 
 pub none_before : (rest behind field after : List ℕ) → rest ≡ (32 ∷ []) ++ behind → behind ≡ field ++ after →
@@ -184,8 +181,8 @@ none_at_end rest blank some (n ∷ ns) are = blank _ are.spelling
 pub spelled_clear : (ns : List ℤ) → AllByRecursion IsNarrow ns → AllByRecursion (λ b. b ≢ 10) (spelled ns)
 spelled_clear [] h = tt
 spelled_clear (n ∷ ns) h =
-    all_joined _ (32 ∷ signed_decimal n) (spelled ns)
-    (λ e. absurd (omega arith), all_also (λ b. 45 ≤ b) (λ b. b ≢ 10) (signed_decimal n) (λ b l e. absurd (omega arith)) (digits_from n h.0))
+    all_append _ (32 ∷ signed_decimal n) (spelled ns)
+    (λ e. absurd (omega arith), all_then (λ b. 45 ≤ b) (λ b. b ≢ 10) (signed_decimal n) (digits_from n h.0) (λ b l e. absurd (omega arith)))
     (spelled_clear ns h.1)
 
 -- before the first such byte there is none, and from there on the text begins with it

@@ -3,7 +3,8 @@ use Rattle.std.proofs.Common.{◌≡◌, ◌≢◌, ◌∷◌, ◌++◌, ◌∙�
 use Rattle.std.specs.List.{AllByRecursion}
 use Rattle.bz_algebra.specs.Numbers.{IsNarrow}
 use Rattle.bz_cert.specs.CertText.{CertLine, laid_out, line_bytes, line_with, spelled, word_bytes}
-use Rattle.bz_cert.proofs.ListLemmas.{all_joined, same_tail, same_until}
+use Rattle.bz_model.proofs.MeetingParts.{all_append}
+use Rattle.bz_cert.proofs.ListLemmas.{same_tail, same_until}
 use Rattle.bz_cert.proofs.NumberTexts.{same_numbers, spelled_clear}
 use Rattle.bz_cert.proofs.WordTexts.{no_feed, same_words, spelled_apart}
 
@@ -21,7 +22,7 @@ same_line l m h k e =
 
 -- a line has no line feed
 pub line_clear : (l : CertLine) → IsNarrowLine l → AllByRecursion (λ b. b ≢ 10) (line_bytes l)
-line_clear l h = all_joined (λ b. b ≢ 10) (word_bytes l.word) (spelled l.numbers) (no_feed l.word) (spelled_clear l.numbers h)
+line_clear l h = all_append (λ b. b ≢ 10) (word_bytes l.word) (spelled l.numbers) (no_feed l.word) (spelled_clear l.numbers h)
 
 -- lines, the first of them apart
 pub first_apart : (l : CertLine) (ls : List CertLine) (rest : List ℕ) → laid_out (l ∷ ls) ++ rest ≡ line_bytes l ++ 10 ∷ (laid_out ls ++ rest)

@@ -23,7 +23,8 @@ use Rattle.bz_cert.specs.CertPhases.{start}
 use Rattle.bz_cert.specs.CertReading.{PassFrom, advance, tree_words}
 use Rattle.bz_cert.proofs.Failing.{cut_numbers, few_cuts}
 use Rattle.bz_cert.proofs.ListIndexes.{behind_is}
-use Rattle.bz_cert.proofs.ListLemmas.{all_apart, all_joined}
+use Rattle.bz_model.proofs.MeetingParts.{all_append}
+use Rattle.bz_cert.proofs.ListLemmas.{all_apart}
 use Rattle.bz_cert.proofs.Phases.{map-append}
 use Rattle.bz_cert.proofs.SparseLists.{pair_numbers}
 
@@ -54,7 +55,7 @@ lists_in_range : (alpha mu : List (ℕ × ℤ)) → IsSparseList alpha → IsSpa
 lists_in_range alpha mu h k =
     let second : AllByRecursion IsIndex (list_indexes (sparse_numbers mu)) =
     subst (λ (ns : List ℤ). AllByRecursion IsIndex (list_indexes ns)) (append-nil (sparse_numbers mu)) (list_in_range mu [] k) in
-    all_joined IsIndex (list_indexes (sparse_numbers alpha ++ sparse_numbers mu)) (list_indexes (behind_list (sparse_numbers alpha ++ sparse_numbers mu)))
+    all_append IsIndex (list_indexes (sparse_numbers alpha ++ sparse_numbers mu)) (list_indexes (behind_list (sparse_numbers alpha ++ sparse_numbers mu)))
     (list_in_range alpha (sparse_numbers mu) h)
     (subst (λ (ns : List ℤ). AllByRecursion IsIndex (list_indexes ns)) (sym (behind_is alpha (sparse_numbers mu))) second)
 
@@ -80,7 +81,7 @@ cut_passes verdict before cut possible narrow writable = record {
         narrow.beta,
         (
           narrow.gcd,
-          all_joined IsNarrow (sparse_numbers cut.alpha) (sparse_numbers cut.mu) (narrow_list cut.alpha writable.alpha) (narrow_list cut.mu writable.mu),
+          all_append IsNarrow (sparse_numbers cut.alpha) (sparse_numbers cut.mu) (narrow_list cut.alpha writable.alpha) (narrow_list cut.mu writable.mu),
         ),
       ),
     ),

@@ -204,6 +204,46 @@ some_numbers : (numbers : List ℤ) → 1 ≤ length numbers → (n : ℤ) × (n
 some_numbers [] l = absurd (omega (arith, l))
 some_numbers (n ∷ ns) l = (n, ns, refl)
 
+optimum_of : (den : ℤ) (x eta : List ℤ) (ls : List CertLine) → Passes Optimal start (first_of_point den x) → AllByRecursion IsNarrow eta →
+    (b : BlocksOf Optimal Word.Value ls 0) (value : ℤ) → b.numbers ≡ value ∷ [] → IsNarrow value → BoundOf b.rest →
+    CertOf Optimal (first_of_point den x ∷ line_with Word.Eta eta ∷ ls)
+optimum_of den x eta ls point narrow b value alone value_narrow bound = record {
+  certificate = record {
+    verdict = Optimal;
+    parts = Some (record { master = record { den = den; x = x; eta = eta }; blocks = b.blocks });
+    value = value;
+    ray = [];
+    cuts = bound.cuts;
+    tree = bound.tree;
+  };
+  verdict_is = refl;
+  lines_are = ap (λ ms. first_of_point den x ∷ line_with Word.Eta eta ∷ ms)
+      (b.lines_are ∙ ap (λ ns. block_lines 1 b.blocks ++ line_with Word.Value ns ∷ b.rest) alone
+      ∙ ap (λ ms. block_lines 1 b.blocks ++ line_with Word.Value (value ∷ []) ∷ ms) bound.lines_are);
+  shaped = record {
+    parts = record { den = point.narrow.0; x = point.narrow.1; eta = narrow; blocks = b.narrow };
+    value = value_narrow;
+    ray = refl;
+    cuts = bound.are_cuts;
+    tree = bound.are_nodes;
+  };
+  writable = record { blocks = omega (arith, b.few); cuts = bound.writable_cuts; nodes = bound.writable_nodes };
+}
+
+behind_value : (den : ℤ) (x eta : List ℤ) (ls : List CertLine) → Passes Optimal start (first_of_point den x) → AllByRecursion IsNarrow eta →
+    (b : BlocksOf Optimal Word.Value ls 0) (value : ℤ) → b.numbers ≡ value ∷ [] → CertOf Optimal (first_of_point den x ∷ line_with Word.Eta eta ∷ ls)
+behind_value den x eta ls point narrow b value alone =
+    let q : PassBehind Optimal b.before (line_with Word.Value (value ∷ [])) b.rest = behind_as Optimal b.before _ _ b.rest (ap (line_with Word.Value) alone) b.behind in
+    optimum_of den x eta ls point narrow b value alone q.first.narrow.0
+    (bound_of Optimal (advance b.before (line_with Word.Value (value ∷ []))) b.rest whole_at_end
+    (record {
+      words_are = λ to_come. refl;
+      told = omega (arith, b.told.told);
+      cuts = omega (arith, b.told.cuts);
+      splits = omega (arith, b.told.splits);
+      leaves = omega (arith, b.told.leaves);
+    }) q.later q.ends)
+
 behind_eta : (den : ℤ) (x eta : List ℤ) (ls : List CertLine) → Passes Optimal start (first_of_point den x) →
     PassBehind Optimal (advance start (first_of_point den x)) (line_with Word.Eta eta) ls → CertOf Optimal (first_of_point den x ∷ line_with Word.Eta eta ∷ ls)
 behind_eta den x eta ls point p =
@@ -211,38 +251,7 @@ behind_eta den x eta ls point p =
     blocks_of Optimal Word.Value ls refl (advance (advance start (first_of_point den x)) (line_with Word.Eta eta)) 0
     (record { words_are = λ to_come. refl; blocks_are = refl; told = refl; cuts = refl; splits = refl; leaves = refl }) (omega arith) p.later p.ends in
     let value : (n : ℤ) × (b.numbers ≡ n ∷ []) = one_number b.numbers b.behind.first.enough in
-    let q : PassBehind Optimal b.before (line_with Word.Value (value.0 ∷ [])) b.rest = behind_as Optimal b.before _ _ b.rest (ap (line_with Word.Value) value.1) b.behind in
-    let bound : BoundOf b.rest =
-    bound_of Optimal (advance b.before (line_with Word.Value (value.0 ∷ []))) b.rest whole_at_end
-    (record {
-      words_are = λ to_come. refl;
-      told = omega (arith, b.told.told);
-      cuts = omega (arith, b.told.cuts);
-      splits = omega (arith, b.told.splits);
-      leaves = omega (arith, b.told.leaves);
-    }) q.later q.ends in
-    record {
-      certificate = record {
-        verdict = Optimal;
-        parts = Some (record { master = record { den = den; x = x; eta = eta }; blocks = b.blocks });
-        value = value.0;
-        ray = [];
-        cuts = bound.cuts;
-        tree = bound.tree;
-      };
-      verdict_is = refl;
-      lines_are = ap (λ ms. first_of_point den x ∷ line_with Word.Eta eta ∷ ms)
-          (b.lines_are ∙ ap (λ ns. block_lines 1 b.blocks ++ line_with Word.Value ns ∷ b.rest) value.1
-          ∙ ap (λ ms. block_lines 1 b.blocks ++ line_with Word.Value (value.0 ∷ []) ∷ ms) bound.lines_are);
-      shaped = record {
-        parts = record { den = point.narrow.0; x = point.narrow.1; eta = p.first.narrow; blocks = b.narrow };
-        value = q.first.narrow.0;
-        ray = refl;
-        cuts = bound.are_cuts;
-        tree = bound.are_nodes;
-      };
-      writable = record { blocks = omega (arith, b.few); cuts = bound.writable_cuts; nodes = bound.writable_nodes };
-    }
+    behind_value den x eta ls point p.first.narrow b value.0 value.1
 
 eta_or_none : (den : ℤ) (x : List ℤ) (line : CertLine) (ls : List CertLine) → Passes Optimal start (first_of_point den x) →
     PassBehind Optimal (advance start (first_of_point den x)) line ls → IsIn (Word.Eta ∷ []) line.word → CertOf Optimal (first_of_point den x ∷ line ∷ ls)

@@ -10,7 +10,7 @@ ghost use Rattle.bz_cert.specs.CertText.{line_with};
 use crate::faults::{CertKind, CertStop, fault};
 use crate::line_lists::{read_blocks, read_cuts, read_tree};
 use crate::line_parts::value_of;
-use crate::line_readers::{read_count, read_end, read_eta, read_master};
+use crate::line_readers::{MasterLine, read_count, read_end, read_eta, read_master};
 use crate::places::{Place, next_place};
 use crate::records::{Certificate, Verdict};
 use crate::words::Word;
@@ -31,29 +31,53 @@ fn finish(at: Place<'_>) -> Result<(), CertStop>
     }
 }
 
+/// The blocks of an optimum, and its value.
+#[derive(Drop)]
+struct Valued<'a> {
+    /// The parts of the blocks.
+    blocks: Vec<BlockPart>,
+    /// The value.
+    value: i128,
+    /// The place behind its line.
+    behind: Place<'a>,
+}
+
+/// The blocks of an unbounded model, and a direction.
+#[derive(Drop)]
+struct Directed<'a> {
+    /// The parts of the blocks.
+    blocks: Vec<BlockPart>,
+    /// The direction.
+    ray: Vec<i128>,
+    /// The place behind its line.
+    behind: Place<'a>,
+}
+
 /// The blocks and the value.
-fn read_valued<'a>(
-    alloc: Global,
-    at: Place<'a>,
-) -> Result<(Vec<BlockPart>, i128, Place<'a>), CertStop>
-    ensures { Answers (λ r. ReadsBlocksTo (line_with Word.Value (r.1 ∷ [])) r.0.items at.entry.lines at.entry.rest.now r.2.lines r.2.rest.now) (FailsAtBlocks Word.Value at.entry.lines at.entry.rest.now) result }
+fn read_valued<'a>(alloc: Global, at: Place<'a>) -> Result<Valued<'a>, CertStop>
+    ensures { Answers (λ r. ReadsBlocksTo (line_with Word.Value (r.value ∷ [])) r.blocks.items at.entry.lines at.entry.rest.now r.behind.lines r.behind.rest.now) (FailsAtBlocks Word.Value at.entry.lines at.entry.rest.now) result }
 {
     let blocks = read_blocks(alloc, at, Word::Value)?;
     let value = value_of(blocks.behind.lines + 1, blocks.last.as_slice())?;
     let behind = next_place(blocks.behind, blocks.from_feed)?;
-    Ok((blocks.parts, value, behind))
+    Ok(Valued {
+        blocks: blocks.parts,
+        value,
+        behind,
+    })
 }
 
 /// The blocks and the direction.
-fn read_directed<'a>(
-    alloc: Global,
-    at: Place<'a>,
-) -> Result<(Vec<BlockPart>, Vec<i128>, Place<'a>), CertStop>
-    ensures { Answers (λ r. ReadsBlocksTo (line_with Word.Ray r.1.items) r.0.items at.entry.lines at.entry.rest.now r.2.lines r.2.rest.now) (FailsAtBlocks Word.Ray at.entry.lines at.entry.rest.now) result }
+fn read_directed<'a>(alloc: Global, at: Place<'a>) -> Result<Directed<'a>, CertStop>
+    ensures { Answers (λ r. ReadsBlocksTo (line_with Word.Ray r.ray.items) r.blocks.items at.entry.lines at.entry.rest.now r.behind.lines r.behind.rest.now) (FailsAtBlocks Word.Ray at.entry.lines at.entry.rest.now) result }
 {
     let blocks = read_blocks(alloc, at, Word::Ray)?;
     let behind = next_place(blocks.behind, blocks.from_feed)?;
-    Ok((blocks.parts, blocks.last, behind))
+    Ok(Directed {
+        blocks: blocks.parts,
+        ray: blocks.last,
+        behind,
+    })
 }
 
 /// The cuts and the tree, up to the end of the text.
@@ -72,9 +96,13 @@ fn read_bound(alloc: Global, at: Place<'_>) -> Result<(Vec<Cut>, Vec<TreeNode>),
 fn read_optimal(alloc: Global, at: Place<'_>) -> Result<Certificate, CertStop>
     ensures { Answers (ReadsBody Verdict.Optimal at.entry.rest.now) (FailsBody Verdict.Optimal at.entry.lines at.entry.rest.now) result }
 {
-    let (den, x, behind) = read_master(alloc, at)?;
+    let MasterLine { den, x, behind } = read_master(alloc, at)?;
     let (eta, behind) = read_eta(alloc, behind)?;
-    let (blocks, value, behind) = read_valued(alloc, behind)?;
+    let Valued {
+        blocks,
+        value,
+        behind,
+    } = read_valued(alloc, behind)?;
     let (cuts, tree) = read_bound(alloc, behind)?;
     let master = Master {
         den,
@@ -113,8 +141,12 @@ fn read_infeasible(alloc: Global, at: Place<'_>) -> Result<Certificate, CertStop
 fn read_unbounded(alloc: Global, at: Place<'_>) -> Result<Certificate, CertStop>
     ensures { Answers (ReadsBody Verdict.Unbounded at.entry.rest.now) (FailsBody Verdict.Unbounded at.entry.lines at.entry.rest.now) result }
 {
-    let (den, x, behind) = read_master(alloc, at)?;
-    let (blocks, ray, behind) = read_directed(alloc, behind)?;
+    let MasterLine { den, x, behind } = read_master(alloc, at)?;
+    let Directed {
+        blocks,
+        ray,
+        behind,
+    } = read_directed(alloc, behind)?;
     let end = read_end(alloc, behind, &[Word::End])?;
     finish(end)?;
     let master = Master {

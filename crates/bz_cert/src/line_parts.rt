@@ -6,7 +6,7 @@ ghost use Rattle.bz_cert.specs.CertReading.{Answers, AreNumbersOf, NumbersFail, 
 ghost use Rattle.bz_cert.specs.CertText.{IsWritableCut, IsWritableNode, cut_line, line_with, node_line};
 
 use crate::faults::{CertKind, CertStop, fault};
-use crate::lists::{are_sparse, has_indexes, is_sparse, take_list, two_lists};
+use crate::lists::{Pairs, TwoLists, are_sparse, has_indexes, is_sparse, take_list, two_lists};
 use crate::spelling::numbers_in;
 use crate::words::Word;
 use bz_cut::Cut;
@@ -108,7 +108,10 @@ pub(crate) fn cut_of(alloc: Global, line: u32, numbers: &[i128]) -> Result<Cut, 
     let [block, p0, beta, gcd, lists @ ..] = numbers else {
         return Err(fault(line, CertKind::Line));
     };
-    let (alpha, mu) = two_lists(alloc, line, lists)?;
+    let TwoLists {
+        first: alpha,
+        second: mu,
+    } = two_lists(alloc, line, lists)?;
     if !are_sparse(alpha.as_slice(), mu.as_slice()) {
         return Err(fault(line, CertKind::Order));
     }
@@ -145,8 +148,11 @@ fn leaf_of(alloc: Global, line: u32, numbers: &[i128]) -> Result<TreeNode, CertS
     let [delta, bound, list @ ..] = numbers else {
         return Err(fault(line, CertKind::Line));
     };
-    let (lambda, rest) = take_list(alloc, line, list)?;
-    if !rest.is_empty() {
+    let Pairs {
+        pairs: lambda,
+        behind,
+    } = take_list(alloc, line, list)?;
+    if !behind.is_empty() {
         return Err(fault(line, CertKind::Line));
     }
     if !is_sparse(lambda.as_slice()) {

@@ -7,24 +7,32 @@ ghost use Rattle.bz_cert.specs.CertText.{IsWritableCut, IsWritableNode, cut_line
 
 use crate::faults::{CertKind, CertStop, fault};
 use crate::line_parts::{block_of, count_of, cut_of, master_of, node_of, nothing_of, numbers_of};
-use crate::places::{Place, next_line, next_line_of, next_place, next_word};
+use crate::places::{NumberLine, Place, WordLine, next_line, next_line_of, next_place, next_word};
 use crate::words::Word;
 use bz_cut::Cut;
 use bz_model::BlockPart;
 use bz_tree::TreeNode;
 use std::alloc::Global;
 
+/// The line of the master, read.
+#[derive(Drop)]
+pub(crate) struct MasterLine<'a> {
+    /// The master's denominator.
+    pub den: i128,
+    /// Its numerators.
+    pub x: Vec<i128>,
+    /// The place behind the line.
+    pub behind: Place<'a>,
+}
+
 /// The master's denominator and numerators.
-pub(crate) fn read_master<'a>(
-    alloc: Global,
-    at: Place<'a>,
-) -> Result<(i128, Vec<i128>, Place<'a>), CertStop>
-    ensures { Answers (λ r. ReadsLine at.entry.lines at.entry.rest.now (line_with Word.Master (r.0 ∷ r.1.items)) r.2.lines r.2.rest.now) (FailsAwaiting (Word.Master ∷ []) at.entry.lines at.entry.rest.now) result }
+pub(crate) fn read_master<'a>(alloc: Global, at: Place<'a>) -> Result<MasterLine<'a>, CertStop>
+    ensures { Answers (λ master. ReadsLine at.entry.lines at.entry.rest.now (line_with Word.Master (master.den ∷ master.x.items)) master.behind.lines master.behind.rest.now) (FailsAwaiting (Word.Master ∷ []) at.entry.lines at.entry.rest.now) result }
 {
     let (numbers, from_feed) = next_line_of(alloc, at, Word::Master)?;
     let (den, x) = master_of(alloc, at.lines + 1, numbers.as_slice())?;
     let behind = next_place(at, from_feed)?;
-    Ok((den, x, behind))
+    Ok(MasterLine { den, x, behind })
 }
 
 /// The etas of an optimum.
@@ -53,7 +61,11 @@ pub(crate) fn read_block<'a>(
 ) -> Result<BlockLine<'a>, CertStop>
     ensures { Answers (BlockLineIs last block at.entry.lines at.entry.rest.now) (FailsAtBlock last block at.entry.lines at.entry.rest.now) result }
 {
-    let (word, numbers, from_feed) = next_line(alloc, at, &[Word::Block, last])?;
+    let NumberLine {
+        word,
+        numbers,
+        from_feed,
+    } = next_line(alloc, at, &[Word::Block, last])?;
     if !word.is(Word::Block) {
         return Ok(BlockLine::Last(numbers, from_feed));
     }
@@ -90,7 +102,11 @@ pub(crate) fn read_node<'a>(
 ) -> Result<(TreeNode, Place<'a>), CertStop>
     ensures { Answers (λ r. ReadsLine at.entry.lines at.entry.rest.now (node_line r.0) r.1.lines r.1.rest.now × IsWritableNode r.0 × (nodes ≤ 65534)) (FailsAtNode nodes at.entry.lines at.entry.rest.now) result }
 {
-    let (word, behind, from_feed) = next_word(at, &[Word::Split, Word::Leaf, Word::End])?;
+    let WordLine {
+        word,
+        behind,
+        from_feed,
+    } = next_word(at, &[Word::Split, Word::Leaf, Word::End])?;
     if word.is(Word::End) {
         return Err(fault(at.lines + 1, CertKind::Tree));
     }
@@ -108,7 +124,11 @@ pub(crate) fn read_end<'a>(
 ) -> Result<Place<'a>, CertStop>
     ensures { Answers (λ behind. ReadsLine at.entry.lines at.entry.rest.now (line_with Word.End []) behind.lines behind.rest.now) (FailsAtEnd words.now at.entry.lines at.entry.rest.now) result }
 {
-    let (word, behind, from_feed) = next_word(at, words)?;
+    let WordLine {
+        word,
+        behind,
+        from_feed,
+    } = next_word(at, words)?;
     if !word.is(Word::End) {
         return Err(fault(at.lines + 1, CertKind::Tree));
     }

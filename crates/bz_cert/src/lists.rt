@@ -133,40 +133,78 @@ pub(crate) fn are_sparse(first: &[(u32, i128)], second: &[(u32, i128)]) -> bool
     is_sparse(first) && is_sparse(second)
 }
 
-/// The pair of an index and a number in front, and the numbers behind them.
-fn take_pair(numbers: &[i128]) -> Option<(u32, i128, &[i128])>
-    ensures pair { IfSome result (λ r. numbers.now ≡ pos r.0 ∷ r.1 ∷ r.2.now) }
-    ensures index { IfSome result (λ r. r.0 < 2 ^ 32) }
+/// A pair of an index and a number, in front of other numbers.
+#[derive(Clone, Copy)]
+struct Pair<'a> {
+    /// The index.
+    index: u32,
+    /// The number.
+    number: i128,
+    /// The numbers behind them.
+    behind: &'a [i128],
+}
+
+/// Pairs of an index and a number, in front of other numbers.
+#[derive(Drop)]
+pub(crate) struct Pairs<'a> {
+    /// The pairs.
+    pub pairs: Vec<(u32, i128)>,
+    /// The numbers behind them.
+    pub behind: &'a [i128],
+}
+
+/// Two sparse lists.
+#[derive(Drop)]
+pub(crate) struct TwoLists {
+    /// The first one.
+    pub first: Vec<(u32, i128)>,
+    /// The second one.
+    pub second: Vec<(u32, i128)>,
+}
+
+/// The pair of an index and a number in front.
+fn take_pair(numbers: &[i128]) -> Option<Pair<'_>>
+    ensures pair { IfSome result (λ pair. numbers.now ≡ pos pair.index ∷ pair.number ∷ pair.behind.now) }
+    ensures index { IfSome result (λ pair. pair.index < 2 ^ 32) }
     ensures none { IfNone result ((i : ℕ) (z : ℤ) (behind : List ℤ) → numbers.now ≡ pos i ∷ z ∷ behind → i < 2 ^ 32 → ⊥) }
 {
     let [index, number, behind @ ..] = numbers else {
         return None;
     };
     match u32::try_from(*index) {
-        Ok(index) => Some((index, *number, behind)),
+        Ok(index) => Some(Pair {
+            index,
+            number: *number,
+            behind,
+        }),
         Err(_) => None,
     }
 }
 
-/// So many pairs of an index and a number, and the numbers behind them.
-fn take_pairs(
-    alloc: Global,
-    line: u32,
-    count: u32,
-    numbers: &[i128],
-) -> Result<(Vec<(u32, i128)>, &[i128]), CertStop>
-    ensures { Answers (λ r. BeginsWithPairs count r.0.items numbers.now r.1.now) (Only line CertKind.Line ((es : List (ℕ × ℤ)) (rest : List ℤ) → BeginsWithPairs count es numbers.now rest → ⊥)) result }
+/// So many pairs in front of the numbers.
+fn take_pairs(alloc: Global, line: u32, count: u32, numbers: &[i128]) -> Result<Pairs<'_>, CertStop>
+    ensures { Answers (λ r. BeginsWithPairs count r.pairs.items numbers.now r.behind.now) (Only line CertKind.Line ((es : List (ℕ × ℤ)) (rest : List ℤ) → BeginsWithPairs count es numbers.now rest → ⊥)) result }
 {
     let mut pairs = Vec::new(alloc);
     let mut rest = numbers;
     'pairs: for _ in 0..count {
-        let Some((index, number, behind)) = take_pair(rest) else {
+        let Some(
+            Pair {
+                index,
+                number,
+                behind,
+            },
+        ) = take_pair(rest)
+        else {
             return Err(fault(line, CertKind::Line));
         };
         pairs.push((index, number))?;
         rest = behind;
     }
-    Ok((pairs, rest))
+    Ok(Pairs {
+        pairs,
+        behind: rest,
+    })
 }
 
 /// The count in front, and the numbers behind it.
@@ -184,13 +222,9 @@ fn take_count(numbers: &[i128]) -> Option<(u32, &[i128])>
     }
 }
 
-/// The pairs of a list, which stands behind their count, and the numbers behind them.
-pub(crate) fn take_list(
-    alloc: Global,
-    line: u32,
-    numbers: &[i128],
-) -> Result<(Vec<(u32, i128)>, &[i128]), CertStop>
-    ensures { Answers (λ r. BeginsWithList r.0.items numbers.now r.1.now) (Only line CertKind.Line ((es : List (ℕ × ℤ)) (rest : List ℤ) → BeginsWithList es numbers.now rest → ⊥)) result }
+/// The pairs of a list in front of the numbers, where their count comes first.
+pub(crate) fn take_list(alloc: Global, line: u32, numbers: &[i128]) -> Result<Pairs<'_>, CertStop>
+    ensures { Answers (λ r. BeginsWithList r.pairs.items numbers.now r.behind.now) (Only line CertKind.Line ((es : List (ℕ × ℤ)) (rest : List ℤ) → BeginsWithList es numbers.now rest → ⊥)) result }
 {
     let Some((count, behind)) = take_count(numbers) else {
         return Err(fault(line, CertKind::Line));
@@ -199,17 +233,16 @@ pub(crate) fn take_list(
 }
 
 /// The pairs of two lists, which are all of the numbers.
-pub(crate) fn two_lists(
-    alloc: Global,
-    line: u32,
-    numbers: &[i128],
-) -> Result<(Vec<(u32, i128)>, Vec<(u32, i128)>), CertStop>
-    ensures { Answers (λ r. AreTwoLists r.0.items r.1.items numbers.now) (Only line CertKind.Line ((es fs : List (ℕ × ℤ)) → AreTwoLists es fs numbers.now → ⊥)) result }
+pub(crate) fn two_lists(alloc: Global, line: u32, numbers: &[i128]) -> Result<TwoLists, CertStop>
+    ensures { Answers (λ r. AreTwoLists r.first.items r.second.items numbers.now) (Only line CertKind.Line ((es fs : List (ℕ × ℤ)) → AreTwoLists es fs numbers.now → ⊥)) result }
 {
-    let (first, rest) = take_list(alloc, line, numbers)?;
-    let (second, rest) = take_list(alloc, line, rest)?;
-    if rest.is_empty() {
-        Ok((first, second))
+    let first = take_list(alloc, line, numbers)?;
+    let second = take_list(alloc, line, first.behind)?;
+    if second.behind.is_empty() {
+        Ok(TwoLists {
+            first: first.pairs,
+            second: second.pairs,
+        })
     } else {
         Err(fault(line, CertKind::Line))
     }

@@ -22,6 +22,28 @@ pub(crate) struct Place<'a> {
     pub ghost room: { length rest.now + lines < 2 ^ 32 - 1 },
 }
 
+/// The first line of a place, apart.
+#[derive(Clone, Copy)]
+pub(crate) struct WordLine<'a> {
+    /// Its word.
+    pub word: Word,
+    /// What stands behind the word.
+    pub behind: &'a [u8],
+    /// What is left from the line's end on.
+    pub from_feed: &'a [u8],
+}
+
+/// The first line of a place, read.
+#[derive(Drop)]
+pub(crate) struct NumberLine<'a> {
+    /// Its word.
+    pub word: Word,
+    /// The numbers behind the word.
+    pub numbers: Vec<i128>,
+    /// What is left from the line's end on.
+    pub from_feed: &'a [u8],
+}
+
 /// Whether the word is one of these.
 fn is_in(words: &[Word], word: Word) -> bool
     ensures { IsTrue result ↔ IsIn words.now word }
@@ -45,13 +67,9 @@ fn word_among(field: &[u8], words: &[Word]) -> Option<Word>
     }
 }
 
-/// The first line's word, which is one of these, then what stands behind the word, and what is left from the line's end
-/// on.
-pub(crate) fn next_word<'a>(
-    at: Place<'a>,
-    words: &[Word],
-) -> Result<(Word, &'a [u8], &'a [u8]), CertStop>
-    ensures { Answers (λ r. BeginsWithWord at.entry.rest.now r.0 r.1.now r.2.now × IsIn words.now r.0) (FailsComing words.now at.entry.lines at.entry.rest.now) result }
+/// The first line, whose word is one of these.
+pub(crate) fn next_word<'a>(at: Place<'a>, words: &[Word]) -> Result<WordLine<'a>, CertStop>
+    ensures { Answers (λ line. BeginsWithWord at.entry.rest.now line.word line.behind.now line.from_feed.now × IsIn words.now line.word) (FailsComing words.now at.entry.lines at.entry.rest.now) result }
 {
     if at.rest.is_empty() {
         return Err(fault(at.lines, CertKind::End));
@@ -59,22 +77,34 @@ pub(crate) fn next_word<'a>(
     let (line, from_feed) = cut_at(at.rest, b'\n');
     let (field, behind) = cut_at(line, b' ');
     match word_among(field, words) {
-        Some(word) => Ok((word, behind, from_feed)),
+        Some(word) => Ok(WordLine {
+            word,
+            behind,
+            from_feed,
+        }),
         None => Err(fault(at.lines + 1, CertKind::Line)),
     }
 }
 
-/// The first line's word and numbers, and what is left from the line's end on. The word is one of these.
+/// The first line with its numbers. Its word is one of these.
 pub(crate) fn next_line<'a>(
     alloc: Global,
     at: Place<'a>,
     words: &[Word],
-) -> Result<(Word, Vec<i128>, &'a [u8]), CertStop>
-    ensures { Answers (λ r. BeginsWithCertLine at.entry.rest.now (line_with r.0 r.1.items) r.2.now × IsIn words.now r.0) (FailsAwaiting words.now at.entry.lines at.entry.rest.now) result }
+) -> Result<NumberLine<'a>, CertStop>
+    ensures { Answers (λ line. BeginsWithCertLine at.entry.rest.now (line_with line.word line.numbers.items) line.from_feed.now × IsIn words.now line.word) (FailsAwaiting words.now at.entry.lines at.entry.rest.now) result }
 {
-    let (word, behind, from_feed) = next_word(at, words)?;
+    let WordLine {
+        word,
+        behind,
+        from_feed,
+    } = next_word(at, words)?;
     let numbers = numbers_of(alloc, at.lines + 1, word, behind)?;
-    Ok((word, numbers, from_feed))
+    Ok(NumberLine {
+        word,
+        numbers,
+        from_feed,
+    })
 }
 
 /// The place behind the first line, which ends at the line feed that the rest begins with.
@@ -100,6 +130,10 @@ pub(crate) fn next_line_of<'a>(
 ) -> Result<(Vec<i128>, &'a [u8]), CertStop>
     ensures { Answers (λ r. BeginsWithCertLine at.entry.rest.now (line_with word r.0.items) r.1.now) (FailsAwaiting (word ∷ []) at.entry.lines at.entry.rest.now) result }
 {
-    let (_, numbers, from_feed) = next_line(alloc, at, &[word])?;
+    let NumberLine {
+        numbers,
+        from_feed,
+        ..
+    } = next_line(alloc, at, &[word])?;
     Ok((numbers, from_feed))
 }

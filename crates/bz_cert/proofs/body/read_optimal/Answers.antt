@@ -15,23 +15,23 @@ returns-in_err-den c = handed_on _ _ _ _ _ c.from_residual.ensures.1 c.in_err-de
 pub returns-in_err-eta : goal.returns-in_err-eta
 returns-in_err-eta c = handed_on _ _ _ _ _ c.from_residual-in_err-eta.ensures.1 c.in_err-eta.ensures (λ number kind h.
     fails_later Verdict.Optimal start _ _ _ _ _ number kind (point_read Verdict.Optimal _ _ _ _ _ _ optimal_master c.in_ok-den.ensures)
-    (fails_now Verdict.Optimal _ _ _ number kind (h Verdict.Optimal _ (optimal_eta c.in_ok-den.den c.in_ok-den.x.items) (eta_fine Verdict.Optimal (advance start (first_of_point c.in_ok-den.den c.in_ok-den.x.items))))))
+    (fails_now Verdict.Optimal _ _ _ number kind (h Verdict.Optimal _ (optimal_eta c.in_ok-den.field-0.den c.in_ok-den.field-0.x.items) (eta_fine Verdict.Optimal (advance start (first_of_point c.in_ok-den.field-0.den c.in_ok-den.field-0.x.items))))))
 
 pub returns-in_err-blocks : goal.returns-in_err-blocks
 returns-in_err-blocks c = handed_on _ _ _ _ _ c.from_residual-in_err-blocks.ensures.1 c.in_err-blocks.ensures (λ number kind h.
     fails_later Verdict.Optimal start _ _ _ _ _ number kind (eta_read _ _ _ _ _ _ _ _ _ c.in_ok-den.ensures c.in_ok-eta.ensures)
-    (h Verdict.Optimal _ (optimal_blocks c.in_ok-den.den c.in_ok-den.x.items c.in_ok-eta.eta.items)))
+    (h Verdict.Optimal _ (optimal_blocks c.in_ok-den.field-0.den c.in_ok-den.field-0.x.items c.in_ok-eta.eta.items)))
 
 pub returns-in_err-cuts : goal.returns-in_err-cuts
 returns-in_err-cuts c = handed_on _ _ _ _ _ c.from_residual-in_err-cuts.ensures.1 c.in_err-cuts.ensures (λ number kind h.
     fails_later Verdict.Optimal start _ _ _ _ _ number kind
     (value_read _ _ _ _ _ _ _ _ _ _ _ _ _ c.in_ok-den.ensures c.in_ok-eta.ensures c.in_ok-blocks.ensures)
-    (h Verdict.Optimal _ (optimal_bound c.in_ok-den.den c.in_ok-den.x.items c.in_ok-eta.eta.items c.in_ok-blocks.blocks.items c.in_ok-blocks.value)))
+    (h Verdict.Optimal _ (optimal_bound c.in_ok-den.field-0.den c.in_ok-den.field-0.x.items c.in_ok-eta.eta.items c.in_ok-blocks.field-0.blocks.items c.in_ok-blocks.field-0.value)))
 
 pub returns : goal.returns
 returns c =
-    let f : FitsSigned w128 c.in_ok-den.den = search rules in
-    let g : FitsSigned w128 c.in_ok-blocks.value = search rules in
+    let f : FitsSigned w128 c.in_ok-den.field-0.den = search rules in
+    let g : FitsSigned w128 c.in_ok-blocks.field-0.value = search rules in
     let ray : c.from_vec-4.result ≡ [] = c.from_vec-4.ensures ∙ c.new.ensures.items in
     rw (to_z-of_z f, to_z-of_z g, c.from_vec.ensures, c.from_vec-2.ensures, c.from_vec-3.ensures, ray, c.from_vec-5.ensures, c.from_vec-6.ensures)
     (optimal_body _ _ _ _ _ _ _ _ _ _ _ _ _ _ _ c.in_ok-den.ensures c.in_ok-eta.ensures c.in_ok-blocks.ensures c.in_ok-cuts.ensures)

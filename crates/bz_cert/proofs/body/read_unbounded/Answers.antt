@@ -15,24 +15,24 @@ returns-in_err-den c = handed_on _ _ _ _ _ c.from_residual.ensures.1 c.in_err-de
 pub returns-in_err-blocks : goal.returns-in_err-blocks
 returns-in_err-blocks c = handed_on _ _ _ _ _ c.from_residual-in_err-blocks.ensures.1 c.in_err-blocks.ensures (λ number kind h.
     fails_later Verdict.Unbounded start _ _ _ _ _ number kind (point_read Verdict.Unbounded _ _ _ _ _ _ unbounded_master c.in_ok-den.ensures)
-    (h Verdict.Unbounded _ (unbounded_blocks c.in_ok-den.den c.in_ok-den.x.items)))
+    (h Verdict.Unbounded _ (unbounded_blocks c.in_ok-den.field-0.den c.in_ok-den.field-0.x.items)))
 
 pub returns-in_err-end : goal.returns-in_err-end
 returns-in_err-end c = handed_on _ _ _ _ _ c.from_residual-in_err-end.ensures.1 c.in_err-end.ensures (λ number kind h.
     fails_later Verdict.Unbounded start _ _ _ _ _ number kind (ray_read _ _ _ _ _ _ _ _ _ _ c.in_ok-den.ensures c.in_ok-blocks.ensures)
     (fails_now Verdict.Unbounded _ _ _ number kind
-    (h Verdict.Unbounded _ (unbounded_end c.in_ok-den.den c.in_ok-den.x.items c.in_ok-blocks.blocks.items c.in_ok-blocks.ray.items) (inl refl) (λ t. t) (no_other (advance_all start (unbounded_lines c.in_ok-den.den c.in_ok-den.x.items c.in_ok-blocks.blocks.items c.in_ok-blocks.ray.items))))))
+    (h Verdict.Unbounded _ (unbounded_end c.in_ok-den.field-0.den c.in_ok-den.field-0.x.items c.in_ok-blocks.field-0.blocks.items c.in_ok-blocks.field-0.ray.items) (inl refl) (λ t. t) (no_other (advance_all start (unbounded_lines c.in_ok-den.field-0.den c.in_ok-den.field-0.x.items c.in_ok-blocks.field-0.blocks.items c.in_ok-blocks.field-0.ray.items))))))
 
 pub returns-in_err-finish : goal.returns-in_err-finish
 returns-in_err-finish c = handed_on _ _ _ _ _ c.from_residual-in_err-finish.ensures.1 c.in_err-finish.ensures (λ number kind h.
     fails_later Verdict.Unbounded start _ _ _ _ _ number kind
     (end_of_ray _ _ _ _ _ _ _ _ _ _ _ _ c.in_ok-den.ensures c.in_ok-blocks.ensures c.in_ok-end.ensures)
     (fails_now Verdict.Unbounded _ _ _ number kind
-    (h Verdict.Unbounded _ (ray_ends c.in_ok-den.den c.in_ok-den.x.items c.in_ok-blocks.blocks.items c.in_ok-blocks.ray.items))))
+    (h Verdict.Unbounded _ (ray_ends c.in_ok-den.field-0.den c.in_ok-den.field-0.x.items c.in_ok-blocks.field-0.blocks.items c.in_ok-blocks.field-0.ray.items))))
 
 pub returns : goal.returns
 returns c =
-    let f : FitsSigned w128 c.in_ok-den.den = search rules in
+    let f : FitsSigned w128 c.in_ok-den.field-0.den = search rules in
     let eta : c.from_vec-2.result ≡ [] = c.from_vec-2.ensures ∙ c.new.ensures.items in
     let cuts : c.from_vec-5.result ≡ [] = c.from_vec-5.ensures ∙ c.new-2.ensures.items in
     let tree : c.from_vec-6.result ≡ [] = c.from_vec-6.ensures ∙ c.new-3.ensures.items in

@@ -1,6 +1,6 @@
 use Rattle.std.proofs.Common.{◌≡◌, ◌∷◌, ◌<◌, length, rules, arith, length-append, []}
 use Rattle.bz_cert.specs.CertText.{IsWritableCut}
-use Rattle.bz_cert.proofs.ListLemmas.{all_joined}
+use Rattle.bz_model.proofs.MeetingParts.{all_append}
 use Rattle.bz_cert.proofs.Phases.{fails_later, fails_now}
 use Rattle.bz_cert.proofs.Refusals.{handed_on}
 use Rattle.bz_cert.proofs.Steps.{awaits_cut, awaits_tree, cut_fine, cuts_step}
@@ -13,7 +13,7 @@ cuts-preserved c =
       reads = λ verdict before a. rw c.in_ok-push.ensures.items
           (cuts_step verdict before _ _ c.args.count _ _ _ _ _ _ few c.in_ok-cut.ensures.1 (c.cuts.invariant.reads verdict before a) c.in_ok-cut.ensures.0);
       many = rw c.in_ok-push.ensures.items (omega (arith, c.cuts.invariant.many, length-append c.cuts.cuts.items (c.in_ok-cut.cut ∷ [])));
-      writable = rw c.in_ok-push.ensures.items (all_joined IsWritableCut c.cuts.cuts.items (c.in_ok-cut.cut ∷ []) c.cuts.invariant.writable (c.in_ok-cut.ensures.1, tt));
+      writable = rw c.in_ok-push.ensures.items (all_append IsWritableCut c.cuts.cuts.items (c.in_ok-cut.cut ∷ []) c.cuts.invariant.writable (c.in_ok-cut.ensures.1, tt));
     }
 
 pub returns-in_err-cut : goal.returns-in_err-cut

@@ -1,7 +1,7 @@
 use Rattle.std.proofs.Common.{◌≡◌, ◌∷◌, ◌++◌, ◌<◌, ◌≤◌, ◌∙◌, length, rules, arith, ap, sym, length-append, append-nil, []}
 use Rattle.bz_tree.specs.Trees.{Tree, preorder}
 use Rattle.bz_cert.specs.CertText.{IsWritableNode}
-use Rattle.bz_cert.proofs.ListLemmas.{all_joined}
+use Rattle.bz_model.proofs.MeetingParts.{all_append}
 use Rattle.bz_cert.proofs.Phases.{fails_later, fails_now}
 use Rattle.bz_cert.proofs.Refusals.{handed_on}
 use Rattle.bz_cert.proofs.Steps.{makes_one, makes_step, not_whole, tree_step, tree_start, trees_grow, whole_now}
@@ -27,7 +27,7 @@ nodes-preserved c =
       few = rw c.in_ok-push.ensures.items (omega (arith, few, length-append c.nodes.nodes.items (c.in_ok-node.node ∷ [])));
       trees_few = rw (c.in_ok-push.ensures.items, c.trees_behind-trees.ensures)
           (omega (arith, trees_grow c.in_ok-node.node c.nodes.trees, c.nodes.invariant.trees_few, length-append c.nodes.nodes.items (c.in_ok-node.node ∷ [])));
-      writable = rw c.in_ok-push.ensures.items (all_joined IsWritableNode c.nodes.nodes.items (c.in_ok-node.node ∷ []) c.nodes.invariant.writable (c.in_ok-node.ensures.1, tt));
+      writable = rw c.in_ok-push.ensures.items (all_append IsWritableNode c.nodes.nodes.items (c.in_ok-node.node ∷ []) c.nodes.invariant.writable (c.in_ok-node.ensures.1, tt));
       made = rw (c.in_ok-push.ensures.items, c.trees_behind-trees.ensures) (makes_step _ _ c.in_ok-node.node some c.nodes.invariant.made);
     }
 

@@ -17,7 +17,7 @@ returns-then-not-are_sparse c = faulted _ _ _ _ c.fault-then-not-are_sparse.ensu
     refl,
     λ t. t,
     of_cut _ _ _ c.in-len4-up.len_at_least c.in_ok-alpha.ensures,
-    λ order. let both : IsSparse c.in_ok-alpha.alpha.items × IsSparse c.in_ok-alpha.mu.items =
+    λ order. let both : IsSparse c.in_ok-alpha.field-0.first.items × IsSparse c.in_ok-alpha.field-0.second.items =
         sparse_of_cut before _ _ _ c.in-len4-up.len_at_least c.requires c.in_ok-alpha.ensures order in
         let t : IsTrue c.are_sparse.result = c.are_sparse.ensures.1
         (subst IsSparse (sym c.as_slice.ensures.value) both.0, subst IsSparse (sym c.as_slice-2.ensures.value) both.1) in

@@ -27,7 +27,7 @@ returns-then-not-is_sparse c = faulted _ _ _ _ c.fault-then-not-is_sparse.ensure
     refl,
     λ t. omega arith,
     of_leaf _ _ _ c.in-len2-up.len_at_least c.in_ok-lambda.ensures (empty_now _ (search rules)),
-    λ order. let sparse : IsSparse c.in_ok-lambda.lambda.items =
+    λ order. let sparse : IsSparse c.in_ok-lambda.field-0.pairs.items =
         sparse_of_leaf before _ _ _ c.in-len2-up.len_at_least c.requires c.in_ok-lambda.ensures order in
         let t : IsTrue c.is_sparse.result = c.is_sparse.ensures.1 (subst IsSparse (sym c.as_slice.ensures.value) sparse) in
         absurd (cc (t, c.if-not-is_sparse.true)),

@@ -13,9 +13,9 @@ returns-in_err-word c = handed_on _ _ _ _ _ c.from_residual.ensures.1 c.in_err-w
 
 pub returns-in_err-part : goal.returns-in_err-part
 returns-in_err-part c =
-    let same : c.in_ok-word.word ≡ Word.Block = c.is.ensures.0 (search rules) in
-    let begins : BeginsWithCertLine c.args.at.rest.now (line_with Word.Block c.in_ok-word.numbers.items) c.in_ok-word.from_feed.now =
-    subst (λ (w : Word). BeginsWithCertLine c.args.at.rest.now (line_with w c.in_ok-word.numbers.items) c.in_ok-word.from_feed.now) same c.in_ok-word.ensures.0 in
+    let same : c.in_ok-word.field-0.word ≡ Word.Block = c.is.ensures.0 (search rules) in
+    let begins : BeginsWithCertLine c.args.at.rest.now (line_with Word.Block c.in_ok-word.field-0.numbers.items) c.in_ok-word.field-0.from_feed.now =
+    subst (λ (w : Word). BeginsWithCertLine c.args.at.rest.now (line_with w c.in_ok-word.field-0.numbers.items) c.in_ok-word.field-0.from_feed.now) same c.in_ok-word.ensures.0 in
     handed_on _ _ _ _ _ c.from_residual-in_err-part.ensures.1 c.in_err-part.ensures (λ number kind h verdict before awaits blocks fine.
     numbers_fail verdict before (Word.Block ∷ c.args.last ∷ []) _ _ Word.Block _ _ number kind awaits (inl refl) begins (fine Word.Block (inl refl))
     (subst (λ (ns : List ℤ). NumbersFail (c.args.at.lines + 1) before Word.Block ns number kind) c.as_slice.ensures.value (h before blocks)))
@@ -26,12 +26,12 @@ block_number numbers block rest blocks e b = ap (number_at 0) e ∙ sym b
 
 pub returns-in_err-behind : goal.returns-in_err-behind
 returns-in_err-behind c =
-    let same : c.in_ok-word.word ≡ Word.Block = c.is.ensures.0 (search rules) in
-    let begins : BeginsWithCertLine c.args.at.rest.now (line_with Word.Block c.in_ok-word.numbers.items) c.in_ok-word.from_feed.now =
-    subst (λ (w : Word). BeginsWithCertLine c.args.at.rest.now (line_with w c.in_ok-word.numbers.items) c.in_ok-word.from_feed.now) same c.in_ok-word.ensures.0 in
-    let e : c.in_ok-word.numbers.items ≡ pos c.args.block ∷ c.in_ok-part.part.times ∷ c.in_ok-part.part.y = sym c.as_slice.ensures.value ∙ c.in_ok-part.ensures in
+    let same : c.in_ok-word.field-0.word ≡ Word.Block = c.is.ensures.0 (search rules) in
+    let begins : BeginsWithCertLine c.args.at.rest.now (line_with Word.Block c.in_ok-word.field-0.numbers.items) c.in_ok-word.field-0.from_feed.now =
+    subst (λ (w : Word). BeginsWithCertLine c.args.at.rest.now (line_with w c.in_ok-word.field-0.numbers.items) c.in_ok-word.field-0.from_feed.now) same c.in_ok-word.ensures.0 in
+    let e : c.in_ok-word.field-0.numbers.items ≡ pos c.args.block ∷ c.in_ok-part.part.times ∷ c.in_ok-part.part.y = sym c.as_slice.ensures.value ∙ c.in_ok-part.ensures in
     handed_on _ _ _ _ _ c.from_residual-in_err-behind.ensures.1 c.in_err-behind.ensures (λ number kind h verdict before awaits blocks fine.
     failing_is verdict before _ _ number _ kind CertKind.End h.0 h.1
-    (lacks_feed verdict before _ _ (line_with Word.Block c.in_ok-word.numbers.items) _ begins
+    (lacks_feed verdict before _ _ (line_with Word.Block c.in_ok-word.field-0.numbers.items) _ begins
     (passes verdict before (Word.Block ∷ c.args.last ∷ []) _ Word.Block _ _ awaits (inl refl) begins (fine Word.Block (inl refl)) (λ t. t)
     (omega (arith, ap length e)) (block_number _ _ _ before.blocks e blocks)) h.2))

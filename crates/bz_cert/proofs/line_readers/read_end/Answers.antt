@@ -14,24 +14,24 @@ returns-in_err-word c = handed_on _ _ _ _ _ c.from_residual.ensures.1 c.in_err-w
 
 pub returns-then-not-is : goal.returns-then-not-is
 returns-then-not-is c =
-    let other : c.in_ok-word.word ≡ Word.End → ⊥ = λ e. let t : IsTrue c.is.result = c.is.ensures.1 e in absurd (cc (t, c.if-not-is.true)) in
+    let other : c.in_ok-word.field-0.word ≡ Word.End → ⊥ = λ e. let t : IsTrue c.is.result = c.is.ensures.1 e in absurd (cc (t, c.if-not-is.true)) in
     faulted _ _ _ _ c.fault.ensures (λ verdict before awaits is_in fine breaks.
-    breaks_tree verdict before c.args.words.now _ _ c.in_ok-word.word _ _ awaits c.in_ok-word.ensures.1 c.in_ok-word.ensures.0
-    (breaks c.in_ok-word.word c.in_ok-word.ensures.1 other))
+    breaks_tree verdict before c.args.words.now _ _ c.in_ok-word.field-0.word _ _ awaits c.in_ok-word.ensures.1 c.in_ok-word.ensures.0
+    (breaks c.in_ok-word.field-0.word c.in_ok-word.ensures.1 other))
 
 pub returns-in_err-numbers : goal.returns-in_err-numbers
 returns-in_err-numbers c =
-    let same : c.in_ok-word.word ≡ Word.End = c.is.ensures.0 (search rules) in
+    let same : c.in_ok-word.field-0.word ≡ Word.End = c.is.ensures.0 (search rules) in
     handed_on _ _ _ _ _ c.from_residual-in_err-numbers.ensures.1 c.in_err-numbers.ensures (λ number kind h verdict before awaits is_in fine breaks.
     failing_is verdict before _ _ number _ kind CertKind.Number h.0 h.1
-    (no_numbers verdict before c.args.words.now _ _ c.in_ok-word.word _ _ awaits c.in_ok-word.ensures.1 c.in_ok-word.ensures.0
+    (no_numbers verdict before c.args.words.now _ _ c.in_ok-word.field-0.word _ _ awaits c.in_ok-word.ensures.1 c.in_ok-word.ensures.0
     (λ t. fine (subst (BreaksTree verdict before) same t)) h.2))
 
 pub returns-in_err-nothing_of : goal.returns-in_err-nothing_of
 returns-in_err-nothing_of c =
-    let same : c.in_ok-word.word ≡ Word.End = c.is.ensures.0 (search rules) in
-    let begins : BeginsWithCertLine c.args.at.rest.now (line_with Word.End c.in_ok-numbers.numbers.items) c.in_ok-word.from_feed.now =
-    subst (λ (w : Word). BeginsWithCertLine c.args.at.rest.now (line_with w c.in_ok-numbers.numbers.items) c.in_ok-word.from_feed.now) same
+    let same : c.in_ok-word.field-0.word ≡ Word.End = c.is.ensures.0 (search rules) in
+    let begins : BeginsWithCertLine c.args.at.rest.now (line_with Word.End c.in_ok-numbers.numbers.items) c.in_ok-word.field-0.from_feed.now =
+    subst (λ (w : Word). BeginsWithCertLine c.args.at.rest.now (line_with w c.in_ok-numbers.numbers.items) c.in_ok-word.field-0.from_feed.now) same
     (line_of_numbers _ _ _ _ _ c.in_ok-word.ensures.0 c.in_ok-numbers.ensures) in
     handed_on _ _ _ _ _ c.from_residual-in_err-nothing_of.ensures.1 c.in_err-nothing_of.ensures (λ number kind h verdict before awaits is_in fine breaks.
     numbers_fail verdict before c.args.words.now _ _ Word.End _ _ number kind awaits is_in begins fine
@@ -49,18 +49,18 @@ ends lines rest from_feed numbers lines_now rest_now begins none feed count = re
 
 pub returns : goal.returns
 returns c =
-    let same : c.in_ok-word.word ≡ Word.End = c.is.ensures.0 (search rules) in
-    let begins : BeginsWithCertLine c.args.at.rest.now (line_with Word.End c.in_ok-numbers.numbers.items) c.in_ok-word.from_feed.now =
-    subst (λ (w : Word). BeginsWithCertLine c.args.at.rest.now (line_with w c.in_ok-numbers.numbers.items) c.in_ok-word.from_feed.now) same
+    let same : c.in_ok-word.field-0.word ≡ Word.End = c.is.ensures.0 (search rules) in
+    let begins : BeginsWithCertLine c.args.at.rest.now (line_with Word.End c.in_ok-numbers.numbers.items) c.in_ok-word.field-0.from_feed.now =
+    subst (λ (w : Word). BeginsWithCertLine c.args.at.rest.now (line_with w c.in_ok-numbers.numbers.items) c.in_ok-word.field-0.from_feed.now) same
     (line_of_numbers _ _ _ _ _ c.in_ok-word.ensures.0 c.in_ok-numbers.ensures) in
     let none : c.in_ok-numbers.numbers.items ≡ [] = sym c.as_slice.ensures.value ∙ c.in_ok-nothing_of.ensures in
-    let fails : (number : ℕ) (kind : CertKind) → Only (c.args.at.lines + 1) CertKind.End (c.in_ok-word.from_feed.now ≡ []) number kind →
+    let fails : (number : ℕ) (kind : CertKind) → Only (c.args.at.lines + 1) CertKind.End (c.in_ok-word.field-0.from_feed.now ≡ []) number kind →
     FailsAtEnd c.args.words.now c.args.at.lines c.args.at.rest.now number kind =
     λ number kind h verdict before awaits is_in fine breaks.
     failing_is verdict before _ _ number _ kind CertKind.End h.0 h.1
     (lacks_feed verdict before _ _ (line_with Word.End c.in_ok-numbers.numbers.items) _ begins
     (passes verdict before c.args.words.now _ Word.End _ _ awaits is_in begins fine (λ t. t) (ap length none) tt) h.2) in
     answers_also _ _ _ _ _ c.next_place.ensures
-    (λ (behind : Place) (h : (c.in_ok-word.from_feed.now ≡ 10 ∷ behind.rest.now) × (behind.lines ≡ c.args.at.lines + 1)).
+    (λ (behind : Place) (h : (c.in_ok-word.field-0.from_feed.now ≡ 10 ∷ behind.rest.now) × (behind.lines ≡ c.args.at.lines + 1)).
     ends _ _ _ _ _ _ begins none h.0 h.1)
     fails

@@ -6,7 +6,7 @@ use Rattle.bz_cert.proofs.lists.take_pairs.Goals as goal
 
 pub pairs-preserved : goal.pairs-preserved
 pairs-preserved c =
-    let f : FitsSigned w128 c.in-Some.number = search rules in
+    let f : FitsSigned w128 c.in-Some.field-0.number = search rules in
     record {
       so_far = rw (c.in_ok-push.ensures.items, to_z-of_z f)
           (pair_pushed _ _ _ _ _ _ _ c.pairs.invariant.so_far c.in-Some.ensures.pair c.in-Some.ensures.index);

@@ -5,7 +5,7 @@ use Rattle.std.specs.List.{flat_map}
 use Rattle.std.proofs.lemmas.Grind.{flat_map-append}
 use Rattle.bz_algebra.specs.Numbers.{IsNarrow}
 use Rattle.bz_cert.specs.CertReading.{IsSpelled}
-use Rattle.bz_cert.proofs.ListLemmas.{all_joined}
+use Rattle.bz_model.proofs.MeetingParts.{all_append}
 use Rattle.bz_cert.proofs.NumberTexts.{none_at_end, none_before, none_here, shorter_behind}
 use Rattle.bz_cert.proofs.Refusals.{faulted}
 use Rattle.bz_cert.proofs.spelling.numbers_in.Goals as goal
@@ -27,7 +27,7 @@ numbers-preserved c =
       spelled = rw (c.in_ok-push.ensures.items, to_z-of_z f)
           (number_pushed _ _ _ _ _ _ _ c.numbers.invariant.spelled c.in-Some.ensures.found c.cut_at.ensures.joined c.in-Some-number_of.ensures.spelled);
       narrow = rw (c.in_ok-push.ensures.items, to_z-of_z f)
-          (all_joined IsNarrow c.numbers.numbers.items (c.in-Some-number_of.number ∷ []) c.numbers.invariant.narrow (c.in-Some-number_of.ensures.spelled.narrow, tt));
+          (all_append IsNarrow c.numbers.numbers.items (c.in-Some-number_of.number ∷ []) c.numbers.invariant.narrow (c.in-Some-number_of.ensures.spelled.narrow, tt));
       none = λ no. c.numbers.invariant.none
           (none_before _ _ _ _ c.in-Some.ensures.found c.cut_at.ensures.joined c.cut_at.ensures.before c.cut_at.ensures.from_there no);
     }
