@@ -1,5 +1,5 @@
 -- What loads give and why they refuse, in terms of the contents of the desk.
-use Rattle.std.proofs.Common.{◌≡◌, ℕ, ◌<◌, ◌≤◌, List, length, Option, Some, None, refl, ap, subst, sym, ◌∙◌}
+use Rattle.std.proofs.Common.{◌≡◌, ℕ, ◌<◌, ◌≤◌, List, length, Option, Some, None, ap, subst, sym, ◌∙◌}
 use Rattle.std.specs.Prelude.{IsSomeAnd, Result, Ok, Err, IsErrAnd, IfErr, IfOk, ◌+◌, slice_index_or}
 use Rattle.bz_io.specs.Desk.{Contents, Holds, IsSame}
 use Rattle.bz_io.specs.Told.{WhereTold}

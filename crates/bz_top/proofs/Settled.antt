@@ -2,7 +2,7 @@
 --
 -- A job passes stages, one after another, and ends at the first that fails, or behind the last. So two ends of the same
 -- contents are at the same stage.
-use Rattle.std.proofs.Common.{◌≡◌, ◌⊎◌, inl, inr, ℕ, zero, suc, ◌<◌, ◌≤◌, List, length, Option, Some, None, refl, sym, subst, ap, ◌∙◌, arith}
+use Rattle.std.proofs.Common.{◌≡◌, ◌⊎◌, inl, inr, ℕ, zero, suc, ◌<◌, List, length, Option, Some, None, refl, sym, subst, ap, ◌∙◌, arith}
 use Rattle.std.specs.Prelude.{IsSomeAnd, Result, Ok, Err}
 use Rattle.std.specs.Option.{unwrap_or}
 use Rattle.bz_algebra.proofs.Bounded.{by_lt, by_order}
@@ -35,8 +35,8 @@ use Rattle.bz_top.specs.declared.status.Refusal.{Refusal}
 use Rattle.bz_top.specs.declared.status.Refusal.TheVariants as refusal
 use Rattle.bz_top.specs.declared.status.Status.{Status}
 use Rattle.bz_top.specs.declared.status.Status.TheVariants as status
-use Rattle.bz_top.specs.Claims.{EndsSettled, HasCert, HasNoCert, HoldsFile, IsAccepted, IsCause, IsCertRefused, IsCheckRefused, IsCutShort, IsGranted, IsModelRefused, IsPartRefused, IsProven, IsSplitRefused, IsTooLong, ReadsCertificate, ReadsModel, ReadsPart, Settles, ShowsParts, ShowsVerdict, limit_of}
-use Rattle.bz_top.specs.Ends.{name_of, status_after, status_of}
+use Rattle.bz_top.specs.Claims.{EndsSettled, HasCert, HasNoCert, HoldsFile, IsAccepted, IsCause, IsCertRefused, IsCheckRefused, IsCutShort, IsGranted, IsModelRefused, IsPartRefused, IsProven, IsSplitRefused, IsTooLong, ReadsCertificate, ReadsModel, ReadsPart, Settles, limit_of}
+use Rattle.bz_top.specs.Ends.{status_after, status_of}
 use Rattle.bz_top.specs.Loads.{Accepted, Decomposes, IsEarly, ShownHolding, ShownParts}
 
 -- what a name holds is one text

@@ -1,7 +1,7 @@
 -- What the program claims of a job.
 use Rattle.std.specs.Prelude.{ℕ, ℤ, ◌≡◌, ◌⊎◌, ◌<◌, ◌≤◌, ◌+◌, ◌*◌, List, length, Option, Some, None, IsSomeAnd, Result, Ok, Err, slice_index_or}
 use Rattle.bz_algebra.specs.Fractions.{IsSameNumber}
-use Rattle.bz_io.specs.Desk.{Contents, HoldsWith}
+use Rattle.bz_io.specs.Desk.{Contents}
 use Rattle.bz_io.specs.Faults.{HasRisen}
 use Rattle.bz_io.specs.Sink.{Takes, TakesPrefix}
 use Rattle.bz_io.specs.Told.{WhereTold}
@@ -29,9 +29,7 @@ use Rattle.bz_check.specs.CheckTests.{IsCheckFault}
 use Rattle.bz_check.specs.Fits.{Fits}
 use Rattle.bz_check.specs.Passing.{Passes}
 use Rattle.bz_check.specs.Stated.{IsReduced, stated_fraction}
-use Rattle.bz_pass.specs.Laws.{IsDecomposed}
 use Rattle.bz_pass.specs.PartPoints.{IsPointOf}
-use Rattle.bz_pass.specs.Verdicts.{objective_of}
 use Rattle.bz_top.specs.declared.job.Job.{Job}
 use Rattle.bz_top.specs.declared.job.Job.TheVariants as job
 use Rattle.bz_top.specs.declared.said.Holding.{Holding}

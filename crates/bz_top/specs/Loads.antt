@@ -1,5 +1,5 @@
 -- What the parts of a job answer: its loads, its split and its check.
-use Rattle.std.specs.Prelude.{ℕ, ◌≡◌, ◌⊎◌, ◌<◌, ◌≤◌, ◌+◌, List, length, Option, Some, None, Result, Ok, Err}
+use Rattle.std.specs.Prelude.{◌≡◌, ◌⊎◌, ◌<◌, ◌+◌, length, Option, Some, None, Result, Ok, Err}
 use Rattle.bz_algebra.specs.Fractions.{IsSameNumber}
 use Rattle.bz_io.specs.Desk.{Contents, HoldsWith}
 use Rattle.bz_model.specs.declared.Model.{Model}

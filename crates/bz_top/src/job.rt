@@ -1,10 +1,7 @@
 //! What the words of the program ask for.
-ghost use Rattle.std.specs.Prelude.{◌≡◌, List, ℕ, map, IfOk, IfErr, IsTrue, ◌↔◌};
+ghost use Rattle.std.specs.Prelude.{◌≡◌};
 ghost use Rattle.std.specs.String.{string_bytes};
-ghost use Rattle.bz_top.specs.Jobs.{IsFileName, JobOf};
 
-use bz_num::OutOfMemory;
-use std::alloc::Global;
 use std::marker::Model;
 
 /// The name of a file, as the words give it. Contracts see its bytes.

@@ -1,5 +1,5 @@
 //! The parts of a split, from the files of a job.
-ghost use Rattle.std.specs.Prelude.{◌≡◌, IfErr, IfOk};
+ghost use Rattle.std.specs.Prelude.{IfErr, IfOk};
 ghost use Rattle.bz_io.specs.Desk.{IsSame};
 ghost use Rattle.bz_io.specs.Told.{WhereTold};
 ghost use Rattle.bz_model.specs.Splits.{IsSplit};

@@ -1,5 +1,5 @@
 //! How the program ends.
-ghost use Rattle.std.specs.Prelude.{◌≡◌, ◌<◌};
+ghost use Rattle.std.specs.Prelude.{◌≡◌};
 ghost use Rattle.bz_top.specs.Ends.{number_of};
 
 use bz_cert::CertFault;

@@ -1,4 +1,4 @@
-use Rattle.std.proofs.Common.{rules, ◌≡◌, List, ℕ, subst, sym}
+use Rattle.std.proofs.Common.{◌≡◌, List, ℕ, subst, sym}
 use Rattle.bz_part.specs.Partition.{PartFault}
 use Rattle.bz_top.specs.declared.status.File.TheVariants.{Part as PartFile}
 use Rattle.bz_top.specs.declared.status.Refusal.{Refusal}

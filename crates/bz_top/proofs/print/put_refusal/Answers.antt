@@ -1,4 +1,3 @@
-use Rattle.std.proofs.Common.{rules}
 use Rattle.bz_top.proofs.print.put_refusal.Goals as goal
 
 pub returns-in-Read : goal.returns-in-Read

@@ -1,4 +1,3 @@
-use Rattle.std.proofs.Common.{rules}
 use Rattle.bz_top.proofs.print.put_unsplit.Goals as goal
 
 pub returns-in-Joins : goal.returns-in-Joins

@@ -1,4 +1,4 @@
-use Rattle.std.proofs.Common.{rules, refl, ◌≡◌, sym, subst, List, ℕ}
+use Rattle.std.proofs.Common.{refl, subst, List, ℕ}
 use Rattle.bz_top.specs.Texts.{parts_text}
 use Rattle.bz_top.proofs.PartSizes.{parts_next, parts_none}
 use Rattle.bz_top.proofs.PieceTexts.{Finishes, breaks, finished, goes_on, starts}

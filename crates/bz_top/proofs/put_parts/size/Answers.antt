@@ -1,4 +1,4 @@
-use Rattle.std.proofs.Common.{◌≡◌, ◌≤◌, ◌<◌, ◌+◌, ◌*◌, ◌^◌, ◌∙◌, ℕ, List, Bool, filter, length, ap, sym, arith}
+use Rattle.std.proofs.Common.{◌≡◌, ◌+◌, ◌*◌, ◌∙◌, List, filter, length, ap, arith}
 use Rattle.bz_model.specs.declared.Column.{Column}
 use Rattle.bz_model.specs.declared.Model.{Model}
 use Rattle.bz_model.specs.Strict.{size_of}

@@ -1,4 +1,3 @@
-use Rattle.std.proofs.Common.{rules}
 use Rattle.bz_top.proofs.running.put_said.Goals as goal
 
 pub returns-in-Parts : goal.returns-in-Parts

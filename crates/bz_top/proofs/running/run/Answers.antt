@@ -1,12 +1,10 @@
-use Rattle.std.proofs.Common.{rules, ◌≡◌, ◌⊎◌, List, ℕ, map, sym, subst}
-use Rattle.std.specs.Prelude.{Err}
+use Rattle.std.proofs.Common.{◌≡◌, ◌⊎◌, map, sym, subst}
 use Rattle.std.specs.String.{string_bytes}
 use Rattle.bz_top.specs.declared.status.Status.{Status}
 use Rattle.bz_top.specs.declared.status.Status.TheVariants as status
 use Rattle.bz_top.specs.Claims.{BreaksOffAsked, BreaksOffUsage, RefusesAsked}
 use Rattle.bz_top.specs.Ends.{IsRefused}
 use Rattle.bz_top.specs.Jobs.{SomeJob}
-use Rattle.bz_top.specs.Words.{ReadsWords}
 use Rattle.bz_top.proofs.RefusalEnds.{memory_refused, memory_written}
 use Rattle.bz_top.proofs.running.run.Goals as goal
 

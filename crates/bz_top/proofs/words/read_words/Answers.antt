@@ -1,4 +1,4 @@
-use Rattle.std.proofs.Common.{◌≡◌, List, ℕ, map, sym, subst}
+use Rattle.std.proofs.Common.{List, ℕ, sym, subst}
 use Rattle.std.specs.String.{string_bytes}
 use Rattle.bz_top.specs.Words.{ReadsWords}
 use Rattle.bz_top.proofs.Fours.{four_words}
