@@ -1,13 +1,13 @@
 -- All tests of a certificate hold exactly where it passes and fits, and it has one fault at most.
 use Rattle.std.specs.Prelude.{ℕ, ℤ, ◌≡◌, ◌↔◌, List, [], ◌∷◌, ◌++◌, length, Option, Some, None}
 use Rattle.std.specs.List.{AllByRecursion, enumerate_from}
-use Rattle.std.proofs.Common.{refl, subst}
+use Rattle.std.proofs.Common.{inl, inr, refl, subst}
 use Rattle.bz_algebra.specs.Fractions.{IsSameNumber}
 use Rattle.bz_model.specs.declared.Model.{Model}
 use Rattle.bz_model.specs.declared.Parts.{Parts}
 use Rattle.bz_model.specs.Parting.{integers_of}
 use Rattle.bz_model.specs.Points.{objective, IsInfeasible, IsOptimal, IsUnbounded}
-use Rattle.bz_cut.specs.Tests.{AllHold, IsFirstFault, each_of, test}
+use Rattle.bz_cut.specs.Tests.{AllHold, IsFirstFault, Test, each_of, test}
 use Rattle.bz_cut.proofs.TestLemmas.{all_behind, all_front, all_joined, none_where_all, one_fault}
 use Rattle.bz_tree.specs.declared.Leaf.{Leaf}
 use Rattle.bz_tree.specs.Boxes.{Box, IsRootBox}
@@ -251,6 +251,18 @@ fault_is_one m part c f g d h k =
 
 pub fault_fails : (m : Model) (part : List ℕ) (c : Certificate) (f : CheckFault) → IsDecomposed m part → IsCheckFault m part c f → (Passes m part c × Fits m part c) → ⊥
 fault_fails m part c f d h g = none_where_all (check_tests m part h.root h.tree c) f ((tests_tell m part h.root h.tree c d h.is_root h.is_tree).1 g) h.first
+
+-- tests of which none is the first that fails don't fail together
+faultless : {F : Type 0} (tests : List (Test F)) → ((f : F) → IsFirstFault tests f → ⊥) → (AllHold tests → ⊥) → ⊥
+faultless [] none fail = fail tt
+faultless (t ∷ ts) none fail =
+    none t.answer (inl ((λ holds. faultless ts (λ f first. none f (inr (holds, first))) (λ hold. fail (holds, hold))), refl))
+
+pub faultless_passes : (m : Model) (part : List ℕ) (root : Box) (tree : Tree) (c : Certificate) → IsDecomposed m part → IsRootBox m root → HasTree c c.verdict tree → ((f : CheckFault) → IsCheckFault m part c f → ⊥) → ((Passes m part c × Fits m part c) → ⊥) → ⊥
+faultless_passes m part root tree c d r t none fail =
+    faultless (check_tests m part root tree c)
+    (λ f first. none f (record { root = root; is_root = r; tree = tree; is_tree = t; first = first }))
+    (λ hold. fail ((tests_tell m part root tree c d r t).0 hold))
 
 -- ---- what it proves
 pub optimal_means : (m : Model) (part : List ℕ) (c : Certificate) (parts : Parts) (p : List ℤ) (q : ℤ) → IsDecomposed m part → Passes m part c → c.verdict ≡ Optimal → c.parts ≡ Some parts → IsPointOf m part parts p q → IsOptimal m p q × IsSameNumber (objective m p q) (objective_of m c.value parts.master.den)

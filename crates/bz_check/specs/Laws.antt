@@ -25,12 +25,16 @@ AllTestsTell =
     IsDecomposed m part → IsRootBox m root → HasTree c c.verdict tree →
     AllHold (check_tests m part root tree c) ↔ (Passes m part c × Fits m part c)
 
--- A certificate has one fault at most, and none where it passes and fits.
+-- A certificate has one fault at most, and none where it passes and fits; and one without any fault passes and fits, over
+-- the box of the whole model and the tree of its nodes. (Said by double negation: a proof shows that the contrary fails.)
 pub record CheckFaultsAreUnique : Type 0 where
   pub unique : (m : Model) (part : List ℕ) (c : Certificate) (f g : CheckFault) →
       IsDecomposed m part → IsCheckFault m part c f → IsCheckFault m part c g → f ≡ g
   pub faulty : (m : Model) (part : List ℕ) (c : Certificate) (f : CheckFault) →
       IsDecomposed m part → IsCheckFault m part c f → ¬ (Passes m part c × Fits m part c)
+  pub either : (m : Model) (part : List ℕ) (root : Box) (tree : Tree) (c : Certificate) →
+      IsDecomposed m part → IsRootBox m root → HasTree c c.verdict tree →
+      ((f : CheckFault) → ¬ IsCheckFault m part c f) → ¬ ¬ (Passes m part c × Fits m part c)
 
 -- What a certificate that passes says is true of the model itself, which knows no parts: each point of an optimum's parts
 -- is optimal and has the objective that is stated, and there is such a point; a model that is said to be infeasible has
