@@ -1,4 +1,5 @@
 //! Whether a tree of branch and bound holds over the box of the whole model.
+ghost use Rattle.std.proofs.Props.{props};
 ghost use Rattle.std.specs.Prelude.{◌≡◌, ◌↔◌, ◌<◌, ◌≤◌, ◌==◌, ◌+ℤ◌, ◌∷◌, [], ℕ, List, pos, length, IfOk, IsTrue};
 ghost use Rattle.std.specs.List.{AllByRecursion, position_or_len};
 ghost use Rattle.bz_algebra.specs.Numbers.{IsNarrow};
@@ -72,82 +73,65 @@ fn visit_split(
     Ok(())
 }
 
-/// Tests a leaf over the box that the walk has come to.
-fn judge_leaf_here(
-    split: &Split,
-    cuts: &[Cut],
-    positions: &[u32],
+/// What the nodes of a tree are tested against.
+#[derive(Clone, Copy)]
+struct Trial<'a> {
+    split: &'a Split,
+    cuts: &'a [Cut],
+    /// The positions of the integer columns in the master.
+    positions: &'a [u32],
+    /// What each leaf is to show.
     goal: Goal,
-    node: u32,
-    leaf: &Leaf,
-    walk: &Walk,
-) -> Result<(), CheckFault>
-    requires positions { positions.now ≡ positions_of split.now.model split.now.part }
-    requires walk { IsWalk (length positions.now) walk.now }
-    requires cuts { AllByRecursion IsNarrowCut cuts.now }
+    ghost are_positions: { positions.now ≡ positions_of split.now.model split.now.part },
+    ghost narrow: { AllByRecursion IsNarrowCut cuts.now } by { Prim.hlevel props },
+}
+
+/// Tests a leaf over the box that the walk has come to.
+fn judge_leaf_here(trial: &Trial<'_>, node: u32, leaf: &Leaf, walk: &Walk) -> Result<(), CheckFault>
+    requires walk { IsWalk (length trial.now.positions.now) walk.now }
     requires leaf { IsNarrowLeaf leaf.now }
-    requires goal { HasPositiveDen goal }
-    ensures { Judges (leaf_tests split.now.model split.now.part (bounds_of goal) (sides_of split.now.model split.now.part (box_in walk.now) cuts.now) node leaf.now) result }
+    requires goal { HasPositiveDen trial.now.goal }
+    ensures { Judges (leaf_tests trial.now.split.now.model trial.now.split.now.part (bounds_of trial.now.goal) (sides_of trial.now.split.now.model trial.now.split.now.part (box_in walk.now) trial.now.cuts.now) node leaf.now) result }
 {
     let sides = Sides {
-        rows: split.inequalities(0),
-        positions,
+        rows: trial.split.inequalities(0),
+        positions: trial.positions,
         lower: walk.lower.as_slice(),
         upper: walk.upper.as_slice(),
-        cuts,
+        cuts: trial.cuts,
     };
-    judge_leaf(split, &sides, goal, node, leaf)
+    judge_leaf(trial.split, &sides, trial.goal, node, leaf)
 }
 
 /// Tests a leaf, and goes on to the next tree that is to come.
-fn visit_leaf(
-    split: &Split,
-    cuts: &[Cut],
-    positions: &[u32],
-    goal: Goal,
-    node: u32,
-    leaf: &Leaf,
-    walk: &mut Walk,
-) -> Result<(), CheckFault>
-    requires positions { positions.now ≡ positions_of split.now.model split.now.part }
-    requires walk { IsWalk (length positions.now) walk.old }
-    requires cuts { AllByRecursion IsNarrowCut cuts.now }
+fn visit_leaf(trial: &Trial<'_>, node: u32, leaf: &Leaf, walk: &mut Walk) -> Result<(), CheckFault>
+    requires walk { IsWalk (length trial.now.positions.now) walk.old }
     requires leaf { IsNarrowLeaf leaf.now }
-    requires goal { HasPositiveDen goal }
-    ensures judges { JudgesUnless fault.OutOfMemory (leaf_tests split.now.model split.now.part (bounds_of goal) (sides_of split.now.model split.now.part (box_in walk.old) cuts.now) node leaf.now) result }
+    requires goal { HasPositiveDen trial.now.goal }
+    ensures judges { JudgesUnless fault.OutOfMemory (leaf_tests trial.now.split.now.model trial.now.split.now.part (bounds_of trial.now.goal) (sides_of trial.now.split.now.model trial.now.split.now.part (box_in walk.old) trial.now.cuts.now) node leaf.now) result }
     ensures next { IfOk result (λ _. GoesOn walk.old walk.new) }
-    ensures kept { IfOk result (λ _. IsWalk (length positions.now) walk.new) }
+    ensures kept { IfOk result (λ _. IsWalk (length trial.now.positions.now) walk.new) }
 {
-    judge_leaf_here(split, cuts, positions, goal, node, leaf, walk)?;
+    judge_leaf_here(trial, node, leaf, walk)?;
     go_on(walk)?;
     Ok(())
 }
 
 /// Tests a node, and goes on to the next.
-fn visit(
-    split: &Split,
-    cuts: &[Cut],
-    positions: &[u32],
-    goal: Goal,
-    node: u32,
-    entry: &TreeNode,
-    walk: &mut Walk,
-) -> Result<(), CheckFault>
-    requires positions { positions.now ≡ positions_of split.now.model split.now.part }
-    requires walk { IsWalk (length positions.now) walk.old }
-    requires cuts { AllByRecursion IsNarrowCut cuts.now }
+fn visit(trial: &Trial<'_>, node: u32, entry: &TreeNode, walk: &mut Walk) -> Result<(), CheckFault>
+    requires walk { IsWalk (length trial.now.positions.now) walk.old }
     requires entry { IsNarrowNode entry.now }
-    requires goal { HasPositiveDen goal }
-    ensures visits { (root : Box) (tree : Tree) (rest : List TreeNode) → Stands split.now.model split.now.part cuts.now (bounds_of goal) root tree node (box_in walk.old) (open_in walk.old) (entry.now ∷ rest) → Visits split.now.model split.now.part cuts.now (bounds_of goal) root tree node walk.new rest result }
-    ensures kept { IfOk result (λ _. IsWalk (length positions.now) walk.new) }
+    requires goal { HasPositiveDen trial.now.goal }
+    ensures visits { (root : Box) (tree : Tree) (rest : List TreeNode) → Stands trial.now.split.now.model trial.now.split.now.part trial.now.cuts.now (bounds_of trial.now.goal) root tree node (box_in walk.old) (open_in walk.old) (entry.now ∷ rest) → Visits trial.now.split.now.model trial.now.split.now.part trial.now.cuts.now (bounds_of trial.now.goal) root tree node walk.new rest result }
+    ensures kept { IfOk result (λ _. IsWalk (length trial.now.positions.now) walk.new) }
 {
     match entry {
         TreeNode::Split {
             position,
             left,
             right,
-        } => visit_split(positions, node, *position, *left, *right, walk),
-        TreeNode::Leaf(leaf) => visit_leaf(split, cuts, positions, goal, node, leaf, walk),
+        } => visit_split(trial.positions, node, *position, *left, *right, walk),
+        TreeNode::Leaf(leaf) => visit_leaf(trial, node, leaf, walk),
     }
 }
 
@@ -171,17 +155,15 @@ pub fn judge_tree(
     ensures { (tree : Tree) → IsTreeOf nodes.now tree → JudgesUnless fault.OutOfMemory (tree_tests split.now.model split.now.part cuts.now (bounds_of goal) (box_of root.now) 0 tree) result }
 {
     let positions = integer_positions(alloc, split)?;
+    let trial = Trial {
+        split,
+        cuts,
+        positions: positions.as_slice(),
+        goal,
+    };
     let mut walk = Walk::new(alloc, root)?;
     for (node, entry) in nodes.iter().enumerate() {
-        visit(
-            split,
-            cuts,
-            positions.as_slice(),
-            goal,
-            node as u32,
-            entry,
-            &mut walk,
-        )?;
+        visit(&trial, node as u32, entry, &mut walk)?;
     }
     Ok(())
 }
