@@ -38,13 +38,13 @@ impl FileName {
 /// What the words ask for.
 #[derive(Drop)]
 pub enum Job {
-    /// Check a certificate against a model and its partition.
+    /// Check a certificate against a model and its partition, by the names of their files.
     Check {
         model: FileName,
         part: FileName,
         cert: FileName,
     },
-    /// Print the parts of a model by its partition.
+    /// Print the parts of a model by its partition, by the names of their files.
     Split {
         model: FileName,
         part: FileName,

@@ -103,7 +103,8 @@ pub fn do_alone<D: Desk, O: Sink>(alloc: Global, job: &Job, desk: &mut D, out: &
     }
 }
 
-/// Does what the words ask for. This is all that the program does.
+/// Does what the words ask for, and answers how the program ends: by `Done`, or by the status of the refusal whose text it
+/// put, or by `Write` where a put failed. This is all that the program does.
 pub fn run<D: Desk, O: Sink>(alloc: Global, words: &[String], desk: &mut D, out: &mut O) -> Status
     // What is printed is what the files of the job show that the words ask for. What a certificate is said to show is true
     // of the model: its point is optimal and the printed number is its objective, or no point is feasible, or for each
