@@ -5,7 +5,6 @@ pub mod AllTestsRoots
 pub mod AllTestsTrees
 pub mod BetweenTests
 pub mod CostSums
-pub mod ExampleOne
 pub mod Forests
 pub mod FoundSums
 pub mod IntegerPositions

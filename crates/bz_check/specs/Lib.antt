@@ -1,7 +1,6 @@
 pub mod BlockShapes
 pub mod CheckTests
 pub mod Checking
-pub mod ExampleOne
 pub mod Fits
 pub mod IntegerTests
 pub mod Laws

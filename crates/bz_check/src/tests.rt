@@ -58,7 +58,7 @@ fn rows(alloc: Global, a: i128) -> Result<Items<Row>, OutOfMemory>
 
 /// Which model, and its objective.
 #[derive(Clone, Copy)]
-enum Of {
+pub(crate) enum Of {
     First,
     One,
     /// examples/first.mps, its objective maximised.
@@ -117,7 +117,8 @@ fn model(alloc: Global, of: Of, a: i128) -> Result<Model, OutOfMemory>
     })
 }
 
-fn split(alloc: Global, of: Of, a: i128) -> Result<Split, OutOfMemory>
+/// The split model.
+pub(crate) fn split(alloc: Global, of: Of, a: i128) -> Result<Split, OutOfMemory>
     requires some { pos 0 <ℤ a }
     requires few { a <ℤ pos 100 }
     ensures { IfOk result (λ split. length split.model.rows ≡ 1) }

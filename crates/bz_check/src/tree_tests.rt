@@ -1,84 +1,23 @@
 //! The trees of examples/one.cert and of wrong and of deep variants of it. The model is: minimise 2 x + 3 y with
 //! 2 x + y >= 1, x an integer from 0 to 1 in the master, y at least 0 in block 1. The sides of a leaf are `x <= upper`,
 //! `-x <= -lower`, and the cuts `-eta <= 0` and `-6 x - eta <= -3`.
-ghost use Rattle.std.specs.Prelude.{◌≡◌, ◌∷◌, [], IfOk, pos};
+ghost use Rattle.std.specs.Prelude.{IfOk};
 ghost use Rattle.std.specs.List.{AllByRecursion};
 ghost use Rattle.bz_algebra.specs.Numbers.{IsNarrow};
 ghost use Rattle.bz_num.specs.Row.{IsSparse};
-ghost use Rattle.bz_model.specs.Worked.{AreWorkedColumns};
 ghost use Rattle.bz_cert.specs.Shapes.{IsNarrowCut, IsNarrowNode};
-ghost use Rattle.bz_check.specs.ExampleOne.{AreRowsOfOne};
 ghost use Rattle.bz_check.specs.TreeGoals.{HasPositiveDen};
 
 use crate::faults::CheckFault;
+use crate::tests::{Of, split};
 use crate::tree_goals::Goal;
 use crate::tree_walk::judge_tree;
 use bz_cut::Cut;
-use bz_model::{Column, Model, Row, Split};
-use bz_num::{Frac, Items, Name, OutOfMemory, SparseRow};
+use bz_model::Split;
+use bz_num::{OutOfMemory, SparseRow};
 use bz_tree::{Leaf, TreeNode, root_box};
 use std::alloc::Global;
 use std::test::Fail;
-
-fn columns(alloc: Global) -> Result<Items<Column>, OutOfMemory>
-    ensures { IfOk result (λ columns. AreWorkedColumns columns) }
-{
-    let x = Column {
-        name: Name::from_vec(Vec::from_slice(alloc, b"x")?),
-        integer: true,
-        lower: Some(Frac { num: 0, den: 1 }),
-        upper: Some(Frac { num: 1, den: 1 }),
-    };
-    let y = Column {
-        name: Name::from_vec(Vec::from_slice(alloc, b"y")?),
-        integer: false,
-        lower: Some(Frac { num: 0, den: 1 }),
-        upper: None,
-    };
-    let mut columns = Vec::with_capacity(alloc, 2)?;
-    columns.push(x).map_err(|_| OutOfMemory)?;
-    columns.push(y).map_err(|_| OutOfMemory)?;
-    Ok(Items::from_vec(columns))
-}
-
-fn rows(alloc: Global) -> Result<Items<Row>, OutOfMemory>
-    ensures { IfOk result (λ rows. AreRowsOfOne rows) }
-{
-    let link = Row {
-        name: Name::from_vec(Vec::from_slice(alloc, b"LINK")?),
-        terms: SparseRow::from_pairs(alloc, &[(0, 2), (1, 1)])?,
-        lower: Some(1),
-        upper: None,
-    };
-    let mut rows = Vec::with_capacity(alloc, 1)?;
-    rows.push(link).map_err(|_| OutOfMemory)?;
-    Ok(Items::from_vec(rows))
-}
-
-fn model(alloc: Global) -> Result<Model, OutOfMemory>
-    ensures columns { IfOk result (λ model. AreWorkedColumns model.columns) }
-    ensures rows { IfOk result (λ model. AreRowsOfOne model.rows) }
-    ensures cost { IfOk result (λ model. model.cost ≡ (0, pos 2) ∷ (1, pos 3) ∷ []) }
-{
-    Ok(Model {
-        columns: columns(alloc)?,
-        rows: rows(alloc)?,
-        objective: Name::from_vec(Vec::from_slice(alloc, b"COST")?),
-        cost: SparseRow::from_pairs(alloc, &[(0, 2), (1, 3)])?,
-        constant: 0,
-        scale: 1,
-        maximise: false,
-    })
-}
-
-fn split(alloc: Global) -> Result<Split, OutOfMemory> {
-    let model = model(alloc)?;
-    let part = Items::from_vec(Vec::from_slice(alloc, &[0, 1])?);
-    match Split::new(alloc, model, part) {
-        Ok(split) => Ok(split),
-        Err(_) => Err(OutOfMemory),
-    }
-}
 
 /// The cut `alpha x - eta <= beta` of block 1, from three times one of its inequalities.
 fn cut_of(
@@ -258,7 +197,7 @@ const TWO: Goal = Goal::Reaches { value: 2, den: 1 };
 
 #[test]
 fn the_tree_of_the_second_example_holds_and_others_do_not(rt: HostRuntime) -> Result<(), Fail> {
-    let split = split(rt.alloc())?;
+    let split = split(rt.alloc(), Of::One, 2)?;
     let table = [
         (ONE, Ok(()), "as it is"),
         (
@@ -303,7 +242,7 @@ fn the_tree_of_the_second_example_holds_and_others_do_not(rt: HostRuntime) -> Re
 
 #[test]
 fn bounds_are_compared_exactly(rt: HostRuntime) -> Result<(), Fail> {
-    let split = split(rt.alloc())?;
+    let split = split(rt.alloc(), Of::One, 2)?;
     // The leaves bound by 3 and by 2.
     let table = [
         (4, 2, Ok(())),
@@ -328,7 +267,7 @@ fn bounds_are_compared_exactly(rt: HostRuntime) -> Result<(), Fail> {
 
 #[test]
 fn ends_are_put_back_in_deep_trees(rt: HostRuntime) -> Result<(), Fail> {
-    let split = split(rt.alloc())?;
+    let split = split(rt.alloc(), Of::One, 2)?;
     assert_eq!(rt; found(rt.alloc(), &split, 1000, ONE, TWO)?, Ok(()));
     assert_eq!(rt;
         found(rt.alloc(), &split, 1000, Case { wrong: true, ..ONE }, TWO)?,

@@ -1,6 +1,6 @@
 -- The numbers of sparse rows are narrow.
 use Rattle.std.proofs.Common.{to_z-of_z}
-use Rattle.bz_check.proofs.ExampleOne.{sparse_narrow}
+use Rattle.bz_cert.proofs.Bodies.{sparse_narrow}
 use Rattle.bz_check.proofs.tree_tests.leaf_of.Goals as goal
 
 pub returns : goal.returns
