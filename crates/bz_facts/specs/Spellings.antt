@@ -55,9 +55,10 @@ value no_number = zero_dec
 abbrev pub at_thirty : Dec → ℤ
 at_thirty d = d.mant *ℤ pos (10 ^ unsigned_abs (d.exp +ℤ pos 30))
 
--- a decimal of size 10^20 or more, and which sign it has
+-- a decimal of size 10^20 or more
 abbrev pub is_infinite : Dec → Bool
 is_infinite d = nat_le (10 ^ 50) (unsigned_abs (at_thirty d))
 
+-- a negative decimal
 abbrev pub is_below_zero : Dec → Bool
 is_below_zero d = int_lt d.mant (pos 0)

@@ -64,7 +64,7 @@ abbrev pub IsRowOf : Facts → ℕ × RowType → Row → Type 0
 IsRowOf f r row = IsRowWith (slice_index_or f.row_names r.0 []) (row_at f r) row
 
 -- The facts make this model: columns and rows stand in file order. (Each column of a text says whether a marker was open,
--- so that the model has as many columns as the text names: `as_many_columns`.)
+-- so that the model has as many columns as the text names, which is a law, `models_fit`.)
 pub record IsModelOf (f : Facts) (m : Model) : Type 0 where
   pub columns : AllZip (IsColumnOf f.bounds) (enumerate_from 0 (zip f.columns f.integers)) m.columns
   pub rows : AllZip (IsRowOf f) (constraints f.row_types) m.rows

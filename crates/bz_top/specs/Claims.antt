@@ -127,7 +127,7 @@ pub record AreRowCounts (d : Decomposition) (rows : List ℕ) : Type 0 where
   pub parts : length rows ≡ blocks_of d.part + 1
   pub counts : (p : ℕ) → p ≤ blocks_of d.part → slice_index_or rows p 0 ≡ rows_of_part d.model d.part p
 
--- the files are accepted and give the split, whose rows are counted
+-- the files are accepted and give the split
 pub record ShowsParts (contents : Contents) (j : Job) (d : Decomposition) : Type 0 where
   pub asked : HasNoCert j
   pub accepted : IsAccepted contents j d
