@@ -15,7 +15,7 @@ use Rattle.bz_cert.specs.declared.faults.CertStop.{CertStop}
 use Rattle.std.specs.Prelude.{IsErrAnd}
 use Rattle.bz_cert.proofs.Refusals.{handed_on}
 use Rattle.bz_cert.proofs.SparseLists.{not_empty}
-use Rattle.bz_cert.proofs.NumberTexts.{begins_stops, same_spelling}
+use Rattle.bz_cert.proofs.NumberTexts.{begins_stops}
 use Rattle.bz_cert.proofs.TextLines.{same_line as same_bytes_same_line}
 use Rattle.bz_cert.proofs.WordTexts.{no_blank, same_word, spelled_apart}
 
