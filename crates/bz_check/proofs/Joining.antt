@@ -1,6 +1,6 @@
 -- Tests behind tests, where memory may be wanting.
 use Rattle.std.specs.Prelude.{◌≡◌, ◌⊎◌, List, ◌++◌, Result, Ok, Err}
-use Rattle.std.proofs.Common.{inl, inr, ◌∙◌}
+use Rattle.std.proofs.Common.{inl, inr}
 use Rattle.std.specs.Result.{IsErrAnd}
 use Rattle.bz_cut.specs.Tests.{Test, AllHold, IsFirstFault, Judges, JudgesUnless}
 use Rattle.bz_cut.proofs.TestLemmas.{all_behind, all_front, all_joined, fault_behind, fault_in_front, fault_where}

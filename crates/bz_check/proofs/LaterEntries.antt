@@ -1,10 +1,10 @@
 -- The entries of a sparse row from a position on.
-use Rattle.std.proofs.Common.{◌≡◌, refl, sym, ◌∙◌, ap, subst, ℕ, suc, ◌+◌, ◌≤◌, cond, nat_lt, List, [], ◌∷◌, arith, ℤ, pos, inl, inr}
+use Rattle.std.proofs.Common.{◌≡◌, refl, sym, ◌∙◌, ap, ℕ, suc, ◌+◌, ◌≤◌, cond, nat_lt, List, [], ◌∷◌, arith, ℤ, pos, inl, inr}
 use Rattle.std.proofs.lemmas.Int.{ints}
 use Rattle.std.proofs.lemmas.Bool.{cases_Bool, cases_eq, lt-ltb, le-ltb}
 use borrow.Author.Tests.{ltb-true, ltb-false}
 use Rattle.bz_algebra.specs.Sums.{AllBelow, coef}
-use Rattle.bz_num.specs.Row.{IsSparse, IsSparseFrom}
+use Rattle.bz_num.specs.Row.{IsSparseFrom}
 use Rattle.bz_num.proofs.Coefs.{coef-first, coef-rest}
 use Rattle.bz_num.proofs.Rows.{coef-before}
 

@@ -1,5 +1,5 @@
 -- Lists of tests as a loop and a chain of calls come to them.
-use Rattle.std.proofs.Common.{◌+◌, ◌∷◌, ◌++◌, List, Result, inr}
+use Rattle.std.proofs.Common.{◌∷◌, ◌++◌, List, Result, inr}
 use Rattle.bz_cut.specs.Tests.{AllHold, IsFirstFault, Judges, Test}
 use Rattle.bz_cut.proofs.TestLemmas.{all_joined, fault_behind, fault_in_front, judges_then}
 

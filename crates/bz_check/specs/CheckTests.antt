@@ -1,12 +1,12 @@
 -- The tests of a certificate, in their order. A test answers the fault that it stands for; the tests that a sum is not
 -- wide stand where the sum stands.
-use Rattle.std.specs.Prelude.{ℕ, ℤ, pos, ◌≡◌, ◌+◌, ◌*◌, ◌+ℤ◌, ◌*ℤ◌, ◌<◌, ◌<ℤ◌, ◌≤ℤ◌, ◌==◌, List, [], ◌∷◌, ◌++◌, length, IfSome, Option, Some, None}
+use Rattle.std.specs.Prelude.{ℕ, ℤ, pos, ◌≡◌, ◌+◌, ◌*◌, ◌+ℤ◌, ◌*ℤ◌, ◌<ℤ◌, ◌≤ℤ◌, ◌==◌, List, [], ◌∷◌, ◌++◌, length, IfSome, Option, Some, None}
 use Rattle.std.specs.Bool.{OnTrue}
 use Rattle.std.specs.List.{enumerate_from, position_or_len}
 use Rattle.std.proofs.Math.IntN.{neg_ℤ}
 use Rattle.bz_algebra.specs.Numbers.{IsNarrow}
 use Rattle.bz_algebra.specs.Sums.{dot, coef}
-use Rattle.bz_num.specs.Fold.{IsNarrowSum, pairs_at}
+use Rattle.bz_num.specs.Fold.{IsNarrowSum}
 use Rattle.bz_model.specs.declared.BlockPart.{BlockPart}
 use Rattle.bz_model.specs.declared.Column.{Column}
 use Rattle.bz_model.specs.declared.Ineq.{Ineq}
@@ -21,7 +21,7 @@ use Rattle.bz_cut.specs.declared.CutFault.{CutFault}
 use Rattle.bz_cut.specs.declared.CutFault.TheVariants as of_cut
 use Rattle.bz_cut.specs.CutTests.{cut_tests}
 use Rattle.bz_cut.specs.Rows.{own_at, master_at, rhs_at, AreMultipliers}
-use Rattle.bz_cut.specs.Tests.{Test, test, answered, equation, sum_is, each_below, each_of, IsFirstFault, AllHold}
+use Rattle.bz_cut.specs.Tests.{Test, test, answered, equation, sum_is, each_below, each_of, IsFirstFault}
 use Rattle.bz_tree.specs.declared.Leaf.{Leaf}
 use Rattle.bz_tree.specs.Boxes.{Box, IsRootBox}
 use Rattle.bz_tree.specs.Leaves.{sides_of}
@@ -34,7 +34,7 @@ use Rattle.bz_cert.specs.declared.Verdict.TheVariants.{Optimal, Infeasible, Unbo
 use Rattle.bz_check.specs.declared.faults.CheckFault.{CheckFault}
 use Rattle.bz_check.specs.declared.faults.CheckFault.TheVariants as fault
 use Rattle.bz_check.specs.WideLists.{value_sum, stated_numbers, master_sums, block_denominator, block_sums, cost_sums, cut_sums, leaf_sums, ray_sums}
-use Rattle.bz_check.specs.Sums.{row_pairs, value_pairs, sign_of, stated_pairs}
+use Rattle.bz_check.specs.Sums.{row_pairs, value_pairs, stated_pairs}
 
 abbrev pub Tests : Type 1
 Tests = List (Test CheckFault)

@@ -1,5 +1,5 @@
 -- What it is for a certificate to pass, by its verdict.
-use Rattle.std.specs.Prelude.{ℕ, ℤ, List, Option, Some, None}
+use Rattle.std.specs.Prelude.{ℕ, List, Option, Some, None}
 use Rattle.bz_model.specs.declared.Model.{Model}
 use Rattle.bz_model.specs.declared.Parts.{Parts}
 use Rattle.bz_pass.specs.Verdicts.{PassesInfeasible, PassesOptimal, PassesUnbounded}

@@ -1,4 +1,4 @@
-use Rattle.std.proofs.Common.{rules, arith, ◌≡◌, ◌<◌, ℕ, ℤ, pos, ◌+ℤ◌, ◌*ℤ◌, ◌+◌, List, length, true, false, FitsSigned, to_z-of_z, sym, ◌∙◌}
+use Rattle.std.proofs.Common.{rules, arith, ◌≡◌, ℕ, ℤ, ◌+ℤ◌, ◌*ℤ◌, ◌+◌, List, length, true, false, FitsSigned, to_z-of_z, sym, ◌∙◌}
 use Rattle.std.proofs.lemmas.Int.{ints}
 use Rattle.std.specs.Int.{w128}
 use Rattle.bz_algebra.specs.Sums.{coef}

@@ -1,6 +1,5 @@
-use Rattle.std.proofs.Common.{rules, arith, ◌≡◌, ◌<◌, ◌≤◌, ◌+◌, ◌*◌, ℕ, length, get_or}
+use Rattle.std.proofs.Common.{arith, ◌≡◌, ◌<◌, length, get_or}
 use Rattle.bz_model.specs.Parting.{inequalities_of, integers_of, position_of}
-use Rattle.bz_model.specs.Points.{coordinate}
 use Rattle.bz_cut.specs.Tests.{AllHold, IsFirstFault}
 use Rattle.bz_tree.specs.Ends.{box_of}
 use Rattle.bz_check.specs.CheckTests.{integer_tests}

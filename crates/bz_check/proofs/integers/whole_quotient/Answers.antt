@@ -1,6 +1,5 @@
-use Rattle.std.proofs.Common.{rules, arith, ◌≡◌, ◌∙◌, ◌<◌, ℤ, pos, ◌+ℤ◌, ◌*ℤ◌, to_z-of_z}
+use Rattle.std.proofs.Common.{arith, ◌≡◌, ◌∙◌, ◌<◌, ℤ, pos, ◌+ℤ◌, ◌*ℤ◌, to_z-of_z}
 use Rattle.std.proofs.lemmas.Int.{ints}
-use Rattle.std.specs.Int.{w128}
 use Rattle.std.specs.Int.RustNames.{unsigned_abs}
 use Rattle.bz_check.proofs.WholeQuotients.{whole_rest}
 use Rattle.bz_check.proofs.integers.whole_quotient.Goals as goal

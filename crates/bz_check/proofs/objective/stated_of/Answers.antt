@@ -1,5 +1,5 @@
 -- The denominator is the product of two positive numbers, and both numbers are there exactly where nothing is wide.
-use Rattle.std.proofs.Common.{rules, refl, sym, ◌∙◌, ◌≡◌, ◌*ℤ◌, FitsSigned, to_z-of_z}
+use Rattle.std.proofs.Common.{rules, refl, ◌≡◌, ◌*ℤ◌, FitsSigned, to_z-of_z}
 use Rattle.std.specs.Int.{w128}
 use Rattle.bz_algebra.proofs.Ring.{mul_positive}
 use Rattle.bz_algebra.specs.Numbers.{IsNarrow}

@@ -1,4 +1,4 @@
-use Rattle.std.proofs.Common.{rules, ◌≡◌, ◌++◌, length}
+use Rattle.std.proofs.Common.{◌++◌, length}
 use Rattle.std.specs.List.{enumerate_from}
 use Rattle.bz_model.specs.Parting.{inequalities_of, integers_of}
 use Rattle.bz_cut.specs.Tests.{AllHold, IsFirstFault, each_of}

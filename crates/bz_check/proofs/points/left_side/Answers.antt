@@ -1,4 +1,4 @@
-use Rattle.std.proofs.Common.{rules, ◌≡◌, FitsSigned, to_z-of_z, ℤ, pos, List, [], ◌∷◌}
+use Rattle.std.proofs.Common.{rules, ◌≡◌, FitsSigned, to_z-of_z, pos, List, [], ◌∷◌}
 use Rattle.std.specs.Int.{w128}
 use Rattle.bz_algebra.specs.Sums.{dot}
 use Rattle.bz_num.specs.Fold.{IsNarrowSum}

@@ -1,6 +1,5 @@
-use Rattle.std.proofs.Common.{rules, ◌≡◌, ◌∙◌, subst, sym, ℕ, List, ◌++◌, length}
-use Rattle.std.specs.List.{AllByRecursion, enumerate_from}
-use Rattle.bz_algebra.specs.Sums.{AllBelow}
+use Rattle.std.proofs.Common.{◌++◌, length}
+use Rattle.std.specs.List.{enumerate_from}
 use Rattle.bz_cut.specs.Tests.{AllHold, IsFirstFault, each_of}
 use Rattle.bz_cut.proofs.TestLemmas.{all_joined, fault_behind, fault_in_front, judges_then}
 use Rattle.bz_check.specs.declared.faults.CheckFault.{CheckFault}

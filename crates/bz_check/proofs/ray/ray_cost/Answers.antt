@@ -1,4 +1,4 @@
-use Rattle.std.proofs.Common.{rules, arith, ◌≡◌, ◌<◌, ℤ, ℕ, pos, ◌+ℤ◌, ◌*ℤ◌, ◌+◌, true, false, cond, neg_ℤ, length, get_or, FitsSigned, to_z-of_z, sym}
+use Rattle.std.proofs.Common.{rules, arith, ◌≡◌, ◌<◌, ℤ, ℕ, pos, ◌+ℤ◌, ◌*ℤ◌, true, false, cond, neg_ℤ, length, get_or, FitsSigned, to_z-of_z, sym}
 use Rattle.std.specs.Int.{w128}
 use Rattle.bz_num.specs.Fold.{goes_wide}
 use Rattle.bz_num.proofs.Reduces.{narrow-at}

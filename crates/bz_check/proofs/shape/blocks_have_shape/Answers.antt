@@ -1,4 +1,4 @@
-use Rattle.std.proofs.Common.{rules, arith, refl, ◌+◌, ◌≡◌}
+use Rattle.std.proofs.Common.{rules, arith, refl, ◌+◌}
 use Rattle.bz_check.specs.BlockShapes.{HasBlockShape}
 use Rattle.bz_check.proofs.Reducing.{remains_next, remains_fail, remains_end}
 use Rattle.bz_check.proofs.shape.blocks_have_shape.Goals as goal

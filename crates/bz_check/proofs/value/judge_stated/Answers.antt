@@ -1,5 +1,4 @@
-use Rattle.std.proofs.Common.{rules, ◌≡◌, ◌*ℤ◌, List, [], ◌∷◌, ◌++◌, FitsSigned, to_z-of_z}
-use Rattle.std.specs.Int.{w128}
+use Rattle.std.proofs.Common.{rules, ◌≡◌, ◌*ℤ◌, List, [], ◌∷◌, ◌++◌, to_z-of_z}
 use Rattle.bz_algebra.specs.Numbers.{IsNarrow}
 use Rattle.bz_num.specs.Fold.{IsNarrowSum, fold_of}
 use Rattle.bz_cut.specs.Tests.{IsFirstFault, Test, test}

@@ -1,4 +1,4 @@
-use Rattle.std.proofs.Common.{rules, ◌≡◌, ◌+ℤ◌, ℕ, ℤ, List, [], ◌∷◌, FitsSigned, to_z-of_z, sym, ◌∙◌}
+use Rattle.std.proofs.Common.{rules, ◌≡◌, ◌+ℤ◌, ℕ, ℤ, List, [], ◌∷◌, FitsSigned, to_z-of_z}
 use Rattle.std.specs.Int.{w128}
 use Rattle.bz_algebra.specs.Sums.{dot}
 use Rattle.bz_num.specs.Fold.{IsNarrowSum}

@@ -5,7 +5,7 @@ use Rattle.bz_algebra.specs.Sums.{dot}
 use Rattle.bz_num.specs.Fold.{IsNarrowSum}
 use Rattle.bz_model.specs.Parting.{inner_cost, terms_in}
 use Rattle.bz_model.specs.Points.{coordinate}
-use Rattle.bz_cut.specs.Tests.{Judges, Test, test}
+use Rattle.bz_cut.specs.Tests.{Test, test}
 use Rattle.bz_cut.proofs.TestLemmas.{judges_then}
 use Rattle.bz_pass.specs.PartPoints.{total}
 use Rattle.bz_check.specs.declared.faults.CheckFault.{CheckFault}

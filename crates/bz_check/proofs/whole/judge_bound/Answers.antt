@@ -1,5 +1,4 @@
 use Rattle.bz_check.specs.declared.faults.CheckFault.TheVariants as fault
-use Rattle.std.proofs.Common.{◌≡◌}
 use Rattle.bz_tree.specs.Ends.{box_of}
 use Rattle.bz_check.specs.CheckTests.{Tests, cuts_tests, tree_tests}
 use Rattle.bz_check.specs.TreeGoals.{bounds_of}

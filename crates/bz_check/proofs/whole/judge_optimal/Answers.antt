@@ -1,7 +1,7 @@
-use Rattle.std.proofs.Common.{rules, ◌≡◌, List, [], ◌∷◌, ◌++◌, FitsSigned, to_z-of_z}
+use Rattle.std.proofs.Common.{rules, ◌∷◌, ◌++◌, FitsSigned, to_z-of_z}
 use Rattle.std.specs.Int.{w128}
 use Rattle.std.specs.List.{enumerate_from}
-use Rattle.bz_cut.specs.Tests.{AllHold, IsFirstFault, JudgesUnless, each_of, test}
+use Rattle.bz_cut.specs.Tests.{AllHold, IsFirstFault, each_of, test}
 use Rattle.bz_cut.proofs.TestLemmas.{fault_in_front}
 use Rattle.bz_tree.specs.Ends.{box_of}
 use Rattle.bz_tree.specs.Trees.{Reaches}

@@ -1,5 +1,5 @@
-use Rattle.std.proofs.Common.{rules, ◌≡◌, List, [], ◌∷◌, ◌++◌, length}
-use Rattle.bz_cut.specs.Tests.{AllHold, IsFirstFault, test}
+use Rattle.std.proofs.Common.{◌≡◌, [], ◌∷◌, ◌++◌, length}
+use Rattle.bz_cut.specs.Tests.{AllHold, test}
 use Rattle.bz_cut.proofs.TestLemmas.{all_joined, fault_behind, judges_then}
 use Rattle.bz_tree.specs.Ends.{box_of}
 use Rattle.bz_pass.specs.PartPoints.{HasPointShape}

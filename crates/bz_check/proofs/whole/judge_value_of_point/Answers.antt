@@ -1,5 +1,4 @@
-use Rattle.std.proofs.Common.{rules, arith, ◌≡◌, ◌≤◌, List, [], ◌∷◌, ◌++◌, length, FitsSigned, to_z-of_z}
-use Rattle.std.specs.Int.{w128}
+use Rattle.std.proofs.Common.{arith, [], ◌∷◌, ◌++◌, to_z-of_z}
 use Rattle.std.specs.List.{enumerate_from}
 use Rattle.bz_cut.specs.Tests.{AllHold, IsFirstFault, each_of, test}
 use Rattle.bz_cut.proofs.TestLemmas.{all_joined, fault_behind, fault_in_front, judges_then}
