@@ -20,7 +20,7 @@ use Rattle.bz_model.proofs.Inequalities.{master_has_own_alone}
 use Rattle.bz_model.proofs.MeetingParts.{all_both, all_then}
 use Rattle.bz_model.proofs.PartSums.{at_part}
 use Rattle.bz_tree.specs.Boxes.{Box, IsRootBox}
-use Rattle.bz_pass.specs.PartPoints.{eta_of, total, HasShape, HoldsInMaster, HoldsInBlock, IntegerHolds, BlockHolds, IsPointOf}
+use Rattle.bz_pass.specs.PartPoints.{eta_of, total, HasShape, HoldsInMaster, HoldsInBlock, IntegerHolds, IsPointOf}
 use Rattle.bz_pass.proofs.CutsHold.{IsDecomposed, feasible, cost_of_part, cost_terms_within, cost_by_parts, part_fits}
 use Rattle.bz_pass.proofs.Fractional.{scaled_le, scaled_ge, scaled_whole, scaled_sum, within_ceiling, within_floor}
 use Rattle.bz_pass.proofs.MasterIntegers.{IsBoundedInMaster, integers_bounded}

@@ -1,8 +1,6 @@
 -- The point that parts state: the master's, and each block's, and what it is for it to meet the split.
-use Rattle.std.specs.Prelude.{ℕ, ℤ, pos, ◌≡◌, ◌-◌, ◌+ℤ◌, ◌*ℤ◌, ◌<◌, ◌<ℤ◌, ◌≤ℤ◌, List, [], ◌∷◌, length, if◌then◌else◌}
+use Rattle.std.specs.Prelude.{ℕ, ℤ, pos, ◌≡◌, ◌-◌, ◌+ℤ◌, ◌*ℤ◌, ◌<◌, ◌<ℤ◌, ◌≤ℤ◌, List, [], ◌∷◌, length}
 use Rattle.std.specs.List.{AllByRecursion, enumerate_from}
-use Rattle.std.proofs.Math.IntN.{neg_ℤ}
-use Rattle.bz_algebra.specs.Fractions.{Fraction}
 use Rattle.bz_algebra.specs.Sums.{dot}
 use Rattle.bz_model.specs.declared.BlockPart.{BlockPart}
 use Rattle.bz_model.specs.declared.Column.{Column}
@@ -10,13 +8,9 @@ use Rattle.bz_model.specs.declared.Ineq.{Ineq}
 use Rattle.bz_model.specs.declared.Master.{Master}
 use Rattle.bz_model.specs.declared.Model.{Model}
 use Rattle.bz_model.specs.declared.Parts.{Parts}
-use Rattle.bz_model.specs.Parting.{blocks_of, width_of, column_at, position_of, terms_in, inequalities_of, integers_of, inner_cost}
+use Rattle.bz_model.specs.Parting.{blocks_of, width_of, column_at, position_of, terms_in, inequalities_of, inner_cost}
 use Rattle.bz_model.specs.Points.{coordinate, IsWhole}
-use Rattle.bz_tree.specs.Boxes.{Box, IsRootBox}
-use Rattle.bz_cut.specs.Cuts.{IsValid}
-use Rattle.bz_tree.specs.Leaves.{LeafHolds}
-use Rattle.bz_cut.specs.declared.Cut.{Cut}
-use Rattle.bz_tree.specs.declared.Leaf.{Leaf}
+use Rattle.bz_tree.specs.Boxes.{Box}
 
 -- the eta of a block
 abbrev pub eta_of : Master → ℕ → ℤ

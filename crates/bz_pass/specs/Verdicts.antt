@@ -9,7 +9,7 @@ use Rattle.bz_model.specs.declared.Column.{Column}
 use Rattle.bz_model.specs.declared.Model.{Model}
 use Rattle.bz_model.specs.declared.Parts.{Parts}
 use Rattle.bz_model.specs.declared.Row.{Row}
-use Rattle.bz_model.specs.Parting.{blocks_of, width_of, terms_in, inequalities_of, integers_of, inner_cost}
+use Rattle.bz_model.specs.Parting.{terms_in, inequalities_of, integers_of, inner_cost}
 use Rattle.bz_model.specs.Points.{coordinate}
 use Rattle.bz_cut.specs.declared.Cut.{Cut}
 use Rattle.bz_tree.specs.Boxes.{Box, IsRootBox}
