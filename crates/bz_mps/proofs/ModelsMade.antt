@@ -16,9 +16,11 @@ use Rattle.bz_model.specs.declared.Column.{Column}
 use Rattle.bz_model.specs.declared.Model.{Model}
 use Rattle.bz_model.specs.declared.Row.{Row}
 use Rattle.bz_num.specs.Fold.{is_wide}
+use Rattle.bz_num.specs.Lowest.{IsLowest}
 use Rattle.bz_num.specs.declared.Dec.{Dec}
 use Rattle.bz_num.specs.declared.Frac.{Frac}
 use Rattle.bz_num.proofs.Divisors.{divided_z, size-product}
+use Rattle.bz_num.proofs.Lowest.{divisor_some, lowest_of, other_positive}
 use Rattle.bz_facts.specs.declared.BoundLine.{BoundLine}
 use Rattle.bz_facts.specs.declared.Facts.{Facts}
 use Rattle.bz_facts.specs.declared.MpsFault.{MpsFault}
@@ -33,10 +35,9 @@ use Rattle.bz_facts.proofs.SoundLists.{or-none}
 use Rattle.bz_mps.specs.declared.column_ends.Ends.{Ends}
 use Rattle.bz_mps.specs.ColumnEnds.{IsBound, IsFractionOf, bounded, ends_by, is_integer, lines_at, starting}
 use Rattle.bz_mps.specs.FactModel.{IsColumnOf, IsModelOf, IsRowOf, ModelOf, MpsFaultOf, end_test_at_row, end_tests, end_tests_at_column, fault}
-use Rattle.bz_mps.specs.NumbersMade.{IsLowest}
 use Rattle.bz_mps.specs.ScaledRows.{Scaled, constant_of, constraints, cost_of, has_wide_term, is_wide_objective, is_wide_row, is_wide_side, objective_digits, objective_place, row_at}
 use Rattle.bz_mps.specs.TestAnswers.{AreFinite}
-use Rattle.bz_mps.proofs.BoundNumbers.{divisor_some, finite_above, fraction_above, fraction_below, lowest_of, other_positive, power_fits, power_some}
+use Rattle.bz_mps.proofs.BoundNumbers.{finite_above, fraction_above, fraction_below, power_fits, power_some}
 use Rattle.bz_mps.proofs.ColumnSteps.{lines_finite}
 use Rattle.bz_mps.proofs.EndLemmas.{binary_finite, bounded_finite, starting_finite}
 use Rattle.bz_mps.proofs.ModelLemmas.{scale_positive}
