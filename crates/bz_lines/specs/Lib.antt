@@ -5,4 +5,5 @@ pub mod LineReading
 pub mod Lines
 pub mod LinesBefore
 pub mod NameLists
+pub mod NameTables
 pub mod NumberedLines

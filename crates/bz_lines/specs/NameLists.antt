@@ -1,6 +1,10 @@
 -- Names in an order, each by its place.
-use Rattle.std.specs.Prelude.{ℕ, List, [], ◌∷◌, ◌++◌, Bool, bytes_eq, if◌then◌else◌}
+use Rattle.std.specs.Prelude.{ℕ, ◌≡◌, List, [], ◌∷◌, ◌++◌, Bool, Option, Some, None, bytes_eq, length, if◌then◌else◌}
+use Rattle.std.specs.Borrow.{Bor}
+use Rattle.std.specs.BTreeMap.{BTreeMap, get_by}
+use Rattle.std.specs.Cmp.Lexicographic.{slice_cmp}
 use Rattle.std.specs.List.{list_any, position_or_len}
+use Rattle.std.specs.Ordering.{nat_cmp}
 
 -- one of some names
 abbrev pub is_among : List (List ℕ) → List ℕ → Bool
@@ -13,3 +17,16 @@ place names name = position_or_len (bytes_eq name) names
 -- the name, behind the others where it is none of them
 abbrev pub with_name : List (List ℕ) → List ℕ → List (List ℕ)
 with_name names name = if is_among names name then names else names ++ name ∷ []
+
+-- the place of a name among names, where it is one of them
+abbrev pub found : List (List ℕ) → List ℕ → Option ℕ
+found names name = if is_among names name then Some (place names name) else None
+
+-- the map has the place of each of the names, and nothing else
+abbrev pub HasPlaces : List (List ℕ) → BTreeMap (Bor (List ℕ)) ℕ → Type 0
+HasPlaces names places = (name : List ℕ) → get_by (λ k. slice_cmp nat_cmp name k.now) places ≡ found names name
+
+-- the map gets the place of a name that stands behind as many others, where it is none of them
+abbrev pub Notes : List ℕ → ℕ → BTreeMap (Bor (List ℕ)) ℕ → BTreeMap (Bor (List ℕ)) ℕ → Type 0
+Notes name place old new =
+    (names : List (List ℕ)) → length names ≡ place → HasPlaces names old → HasPlaces (names ++ name ∷ []) new

@@ -2,7 +2,9 @@
 #![tactic(auto)]
 
 mod cutting;
+mod hashed_names;
 mod names;
+mod ordered_names;
 mod reader;
 #[cfg(test)]
 mod tests;

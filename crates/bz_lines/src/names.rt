@@ -3,23 +3,14 @@ ghost use Rattle.std.specs.Prelude.{◌≡◌, true, false, [], IfErr, IfOk, IfS
 ghost use Rattle.bz_lines.specs.FieldLists.{field};
 ghost use Rattle.bz_lines.specs.NameLists.{is_among, place, with_name};
 
-use indexmap::IndexSet;
+use crate::hashed_names::HashedNames;
+use crate::ordered_names::OrderedNames;
 use std::alloc::{AllocError, Global};
 use std::marker::Model;
 
-/// Names, each once, in the order in which they first come. Contracts see the list of their bytes.
-#[derive(Drop)]
-pub struct Names<'a> {
-    set: IndexSet<&'a [u8]>,
-}
-
-impl<'a> Model for Names<'a> {
-    ghost use Rattle.std.specs.Prelude.{List, ℕ, map};
-
-    ghost Value = { List (List ℕ) };
-
-    ghost view = { λ n. map (λ k. k.now) n.set.keys };
-}
+/// How many names are found by their hash. A model of 2,048 columns and 2,048 rows has no more; a text may have many more
+/// rows of kind N.
+const HASHED: usize = 4096;
 
 /// What became of an added name.
 #[derive(Clone, Copy, Debug)]
@@ -30,13 +21,37 @@ pub struct Added {
     pub new: bool,
 }
 
+/// Names by their hash while they are few, and then by their order: so no choice of names makes look-ups slow.
+#[derive(Drop)]
+enum Table<'a> {
+    Hashed(HashedNames<'a>),
+    Ordered(OrderedNames<'a>),
+}
+
+/// Names, each once, in the order in which they first come. Contracts see the list of their bytes.
+#[derive(Drop)]
+pub struct Names<'a> {
+    alloc: Global,
+    table: Table<'a>,
+}
+
+impl<'a> Model for Names<'a> {
+    ghost use Rattle.std.specs.Prelude.{List, ℕ};
+    ghost use Rattle.bz_lines.specs.NameTables.{names_in};
+
+    ghost Value = { List (List ℕ) };
+
+    ghost view = { λ n. names_in n.table };
+}
+
 impl<'a> Names<'a> {
     /// No names.
     pub fn new(alloc: Global) -> Names<'a>
         ensures { result ≡ [] }
     {
         Names {
-            set: IndexSet::new(alloc),
+            alloc,
+            table: Table::Hashed(HashedNames::new(alloc)),
         }
     }
 
@@ -46,7 +61,10 @@ impl<'a> Names<'a> {
         ensures there { IfSome result (λ i. is_among self.now name.now ≡ true) }
         ensures absent { IfNone result (is_among self.now name.now ≡ false) }
     {
-        self.set.get_index_of(name)
+        match &self.table {
+            Table::Hashed(names) => names.find(name),
+            Table::Ordered(names) => names.find(name),
+        }
     }
 
     /// Adds a name at the end, where it is new.
@@ -56,24 +74,35 @@ impl<'a> Names<'a> {
         ensures names { IfOk result (λ r. self.new ≡ with_name self.old name.now) }
         ensures kept { IfErr result (λ _. self.new ≡ self.old) }
     {
-        let (place, new) = self.set.insert_full(name)?;
-        Ok(Added { place, new })
+        match &mut self.table {
+            Table::Ordered(names) => names.add(name),
+            Table::Hashed(names) if names.len() < HASHED => names.add(name),
+            Table::Hashed(names) => {
+                let mut ordered = OrderedNames::from_hashed(self.alloc, names)?;
+                let added = ordered.add(name)?;
+                self.table = Table::Ordered(ordered);
+                Ok(added)
+            }
+        }
     }
 
     /// How many names there are.
     pub fn len(&self) -> usize
         ensures { result ≡ length self.now }
     {
-        self.set.len()
+        match &self.table {
+            Table::Hashed(names) => names.len(),
+            Table::Ordered(names) => names.len(),
+        }
     }
 
     /// The name at a place, and no byte where there is none.
     pub fn at(&self, place: usize) -> &[u8]
         ensures { result.now ≡ field place self.now }
     {
-        match self.set.get_index(place) {
-            Some(name) => *name,
-            None => b"",
+        match &self.table {
+            Table::Hashed(names) => names.at(place),
+            Table::Ordered(names) => names.at(place),
         }
     }
 }

@@ -83,3 +83,31 @@ fn keeps_each_name_once(rt: HostRuntime) -> Result<(), Fail> {
     assert_eq!(rt; names.at(4), b"".as_slice());
     Ok(())
 }
+
+/// More names than are found by their hash, each of two bytes, and then all of them again.
+#[test]
+fn finds_names_past_those_with_a_hash(rt: HostRuntime) -> Result<(), Fail> {
+    let texts: Vec<[u8; 2]> = two_bytes(rt.alloc())?;
+    let mut names = Names::new(rt.alloc());
+    for turn in 0..2 {
+        for (place, text) in texts.iter().enumerate() {
+            let added = names.add(text.as_slice())?;
+            assert_eq!(rt; added.place, place);
+            assert_eq!(rt; added.new, turn == 0);
+        }
+    }
+    assert_eq!(rt; names.len(), 5000);
+    assert_eq!(rt; names.at(4999), b"\x13\x87".as_slice());
+    assert_eq!(rt; names.find(b"\x10\x00"), Some(4096));
+    assert_eq!(rt; names.find(b"\x13\x88"), None);
+    Ok(())
+}
+
+/// The numbers below 5,000, each as two bytes, the higher first.
+fn two_bytes(alloc: Global) -> Result<Vec<[u8; 2]>, AllocError> {
+    let mut texts = Vec::new(alloc);
+    for number in 0..5000u16 {
+        texts.push(number.to_be_bytes())?;
+    }
+    Ok(texts)
+}

@@ -1,5 +1,5 @@
 use Rattle.bz_lines.proofs.NameLemmas.{found_place, found_there, found_nothing}
-use Rattle.bz_lines.proofs.names.Names.find.Goals as goal
+use Rattle.bz_lines.proofs.hashed_names.HashedNames.find.Goals as goal
 
 pub returns-clause-place : goal.returns-clause-place
 returns-clause-place c = found_place _ c.args.name.now c.self.inside.set.keys _ c.get_index_of.ensures.index c.self.view_is

@@ -1,7 +1,7 @@
 use Rattle.std.proofs.Common.{◌∙◌, not, ap, map}
 use Rattle.bz_lines.specs.NameLists.{is_among, place, with_name}
 use Rattle.bz_lines.proofs.NameLemmas.{among-now, place-now, with_name-now}
-use Rattle.bz_lines.proofs.names.Names.add.Goals as goal
+use Rattle.bz_lines.proofs.hashed_names.HashedNames.add.Goals as goal
 
 pub returns-clause-place : goal.returns-clause-place
 returns-clause-place c = c.in_ok-place.ensures.index ∙ place-now c.args.name.now c.self.inside.set.keys ∙ ap (λ ns. place ns c.args.name.now) c.self.view_is
