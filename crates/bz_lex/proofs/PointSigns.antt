@@ -10,8 +10,8 @@ use Rattle.bz_algebra.proofs.Ring.{*ℤ_assoc, neg_mul, mul_add, add_mul, mul_ze
 use Rattle.bz_algebra.proofs.SumLemmas.{upto_same, upto_add, upto_scale, upto_scale_right, upto_split, upto_only, upto_zeros}
 use Rattle.bz_tableau.proofs.OneObjective.{objective_is as objective_of}
 use Rattle.bz_lex.proofs.Wholes.{IsWhole, only_zero, extended, extended_before, extended_slack, extended_meets, whole_of_half, basic_or_not, sums_at}
-use Rattle.bz_lex.specs.Answers.{AreMultipliersFor, IsSameCost}
-use Rattle.bz_lex.specs.Points.{IsOutside, terms, IsPoint, MeetsRows}
+use Rattle.bz_tableau.specs.Answers.{AreMultipliersFor, IsSameCost}
+use Rattle.bz_tableau.specs.Points.{IsOutside, terms, IsPoint, MeetsRows}
 
 -- ---- the point
 module _ (s : Equations) (basis : ℕ → ℕ) (w : ℕ → ℕ → ℤ) (tableau : IsTableau s basis w) (z : ℕ → ℤ) (den : ℤ) (point : IsPoint s basis z den) where
