@@ -8,4 +8,5 @@ pub mod Programs
 pub mod Refusals
 pub mod Stops
 pub mod Tables
+pub mod Truths
 pub mod WidePlaces
