@@ -11,6 +11,7 @@ pub mod NothingElse
 pub mod Objectives
 pub mod Pivoting
 pub mod Programs
+pub mod RightSides
 pub mod Ring
 pub mod SumLemmas
 pub mod Uniqueness

@@ -6,7 +6,7 @@ use Rattle.std.proofs.lemmas.Bool.{cases_eq, eq-eqb, ne_eqb}
 use Rattle.std.proofs.Math.IntN.{*ℤ_comm, +ℤ_assoc}
 use Rattle.std.proofs.Math.Nat.{add-zero as nat_add-zero, add-suc as nat_add-suc}
 use Rattle.bz_algebra.specs.Sums.{dot, coef, upto, AllBelow}
-use Rattle.bz_algebra.proofs.Ring.{mul_add, add_mul, mul_neg, add_regroup, mul_left, mul_zero, zero_mul, add_zero, zero_add}
+use Rattle.bz_algebra.proofs.Ring.{*ℤ_assoc, mul_add, add_mul, mul_neg, add_regroup, mul_left, mul_zero, zero_mul, add_zero, zero_add}
 
 -- ---- two sums in one
 -- (a + b) + (c + d) = (a' + c') + (b' + d') where a c = .. : the step of most inductions here
@@ -112,6 +112,13 @@ upto_split n (suc m) f = rw (nat_add-suc, upto_split n m f) (+ℤ_assoc (upto n 
 pub upto_swap : (n m : ℕ) (f : ℕ → ℕ → ℤ) → upto n (λ i. upto m (λ j. f i j)) ≡ upto m (λ j. upto n (λ i. f i j))
 upto_swap zero m f = sym (upto_zero m)
 upto_swap (suc n) m f = rw (upto_swap n m f) (sym (upto_add m (λ j. upto n (λ i. f i j)) (λ j. f n j)))
+
+-- a combination of m rows, at f, is the same combination of the rows at f
+pub upto_rows : (n m : ℕ) (y : ℕ → ℤ) (e : ℕ → ℕ → ℤ) (f : ℕ → ℤ) → upto n (λ j. upto m (λ i. y i *ℤ e i j) *ℤ f j) ≡ upto m (λ i. y i *ℤ upto n (λ j. e i j *ℤ f j))
+upto_rows n m y e f =
+    upto_same n _ _ (λ j b. sym (upto_scale_right m (λ i. y i *ℤ e i j) (f j)))
+    ∙ upto_swap n m (λ j i. (y i *ℤ e i j) *ℤ f j)
+    ∙ upto_same m _ _ (λ i b. upto_same n _ _ (λ j l. *ℤ_assoc (y i) (e i j) (f j)) ∙ upto_scale n (y i) (λ j. e i j *ℤ f j))
 
 pub dot_upto : (es : List (ℕ × ℤ)) (n : ℕ) (f : ℕ → ℕ → ℤ) → dot es (λ r. upto n (λ i. f r i)) ≡ upto n (λ i. dot es (λ r. f r i))
 dot_upto es zero f = dot_zero es

@@ -155,6 +155,13 @@ pub record IsObjectiveRow (relaxed : Bool) (p : Program) (basis : ℕ → ℕ) (
   pub columns : (k : ℕ) → k < p.rows → basis k < (equations_of relaxed p).slack → upto p.rows (λ i. y i *ℤ row_entry relaxed p i (basis k)) +ℤ (d *ℤ objective_entry relaxed p (basis k)) ≡ pos 0
   pub slacks : (k i : ℕ) → k < p.rows → i < p.rows → basis k ≡ (equations_of relaxed p).slack + i → y i ≡ pos 0
 
+-- the programs have the same columns, the same terms in the same rows, and the same cost; their right sides may differ
+pub record DifferInRightSides (p q : Program) : Type 0 where
+  pub columns : q.columns ≡ p.columns
+  pub rows : q.rows ≡ p.rows
+  pub terms : (i j : ℕ) → i < p.rows → j < p.columns → q.term i j ≡ p.term i j
+  pub cost : (j : ℕ) → j < p.columns → q.cost j ≡ p.cost j
+
 -- ---- the pivot
 
 -- the basis with the column e at place r

@@ -17,9 +17,9 @@ use Rattle.bz_tableau.specs.declared.answers.Answer.{Answer}
 use Rattle.bz_tableau.specs.declared.answers.Answer.TheVariants.{Least, Empty, Ray}
 use Rattle.bz_tableau.specs.declared.answers.Vals.{Vals}
 use Rattle.bz_tableau.specs.declared.programs.Lp.{Lp}
-use Rattle.bz_lex.specs.Answers.{IsBasisList, IsLeast, IsRay, IsAnswer, HasAnswer, basis_of}
-use Rattle.bz_lex.specs.Points.{IsPoint, MeetsRows, IsDirection, FallsFreely, MakesRay, IsRayColumn}
-use Rattle.bz_lex.specs.Refusals.{HasLeastSigns, HasAnswerSigns}
+use Rattle.bz_tableau.specs.Answers.{IsBasisList, IsLeast, IsRay, IsAnswer, HasAnswer, basis_of}
+use Rattle.bz_tableau.specs.Points.{IsPoint, MeetsRows, IsDirection, FallsFreely, MakesRay, IsRayColumn}
+use Rattle.bz_tableau.specs.WidePlaces.{HasLeastSigns, HasAnswerSigns}
 use Rattle.bz_tableau.proofs.OneObjective.{objective_same}
 use Rattle.bz_lex.proofs.PointSigns.{point_meets, point_signs, multipliers_by_signs, signs_by_multipliers, same_cost}
 use Rattle.bz_lex.proofs.PointsExist.{listed, length_listed, entry_listed, denominator_exists, point_exists}
@@ -148,17 +148,6 @@ ray_for p basis column b h makes =
       },
     )
 
-pub answer_of_signs : (relaxed : Bool) (lp : Lp) (basis : List ℕ) → HasAnswerSigns relaxed (program_of lp) basis → HasAnswer relaxed lp basis
-answer_of_signs relaxed lp basis h = elim h.signs [
-  | inl s ↦ let a = least_for relaxed (program_of lp) basis h.is_basis h.right_sides s in
-      record { answer = Least basis a.0 a.1; is_answer = record { basis_is = refl; answer = a.2; first_column = tt } }
-  | inr s ↦
-      let b = subst (λ (r : Bool). IsBasisList r (program_of lp) basis) s.1.unrelaxed h.is_basis in
-      let r = subst (λ (r : Bool). HasRightSides r (program_of lp) (place basis)) s.1.unrelaxed h.right_sides in
-      let a = ray_for (program_of lp) basis s.0 b r s.1.ray.makes in
-      record { answer = Ray basis s.0 a.0 a.1; is_answer = record { basis_is = refl; answer = (s.1.unrelaxed, a.2); first_column = s.1.ray } }
-]
-
 -- ---- the first column of a ray
 -- a number below n that is the first with the property, or none below n has it
 first_below : (n : ℕ) (P : ℕ → Type 0) → ((j : ℕ) → (P j → ⊥) ⊎ P j) → ((j : ℕ) → j < n → P j → ⊥) ⊎ ((j : ℕ) × P j × ((i : ℕ) → i < j → P i → ⊥))
@@ -199,6 +188,19 @@ module _ (p : Program) (basis : ℕ → ℕ) (is_basis : IsBasis (rows_of false 
   first_column : (c : ℕ) → MakesRay p basis c → (c : ℕ) × IsRayColumn p basis c
   first_column c m = let f = first_of c (MakesRay p basis) makes_or_not m in (f.0, record { makes = f.1; first = f.2 })
 
+-- ---- from signs to the answer
+pub answer_of_signs : (relaxed : Bool) (lp : Lp) (basis : List ℕ) → HasAnswerSigns relaxed (program_of lp) basis → HasAnswer relaxed lp basis
+answer_of_signs relaxed lp basis h = elim h.signs [
+  | inl s ↦ let a = least_for relaxed (program_of lp) basis h.is_basis h.right_sides s in
+      record { answer = Least basis a.0 a.1; is_answer = record { basis_is = refl; answer = a.2; first_column = tt } }
+  | inr s ↦
+      let b = subst (λ (r : Bool). IsBasisList r (program_of lp) basis) s.1.unrelaxed h.is_basis in
+      let r = subst (λ (r : Bool). HasRightSides r (program_of lp) (place basis)) s.1.unrelaxed h.right_sides in
+      let f = first_column (program_of lp) (place basis) b.is_basis s.0 s.1.makes in
+      let a = ray_for (program_of lp) basis f.0 b r f.1.makes in
+      record { answer = Ray basis f.0 a.0 a.1; is_answer = record { basis_is = refl; answer = (s.1.unrelaxed, a.2); first_column = f.1 } }
+]
+
 -- ---- from answers to signs
 right_sides_of : (relaxed : Bool) (p : Program) (basis : List ℕ) (z : ℕ → ℤ) (den : ℤ) → IsBasisList relaxed p basis → IsPoint (rows_of relaxed p) (place basis) z den → MeetsRows (rows_of relaxed p) z den → HasRightSides relaxed p (place basis)
 right_sides_of relaxed p basis z den b point meets i v l r =
@@ -214,11 +216,10 @@ signs_of_answer relaxed lp (Least basis z y) a = record {
 signs_of_answer relaxed lp (Empty basis y) a = absurd a
 signs_of_answer relaxed lp (Ray basis column z d) a =
     subst (λ (r : Bool). HasAnswerSigns r (program_of lp) basis) (sym a.0)
-    (let f = first_column (program_of lp) (place basis) a.1.is_basis.is_basis column (entry d, a.1.direction, a.1.falls) in
-    record {
+    (record {
       is_basis = a.1.is_basis;
       right_sides = right_sides_of false (program_of lp) basis (entry z.num) z.den a.1.is_basis a.1.point a.1.meets;
-      signs = inr (f.0, record { unrelaxed = refl; ray = f.1 });
+      signs = inr (column, record { unrelaxed = refl; makes = (entry d, a.1.direction, a.1.falls) });
     })
 
 pub signs_with_basis : (relaxed : Bool) (lp : Lp) (basis : List ℕ) (a : Answer) → basis_of a ≡ basis → IsAnswer relaxed lp a → HasAnswerSigns relaxed (program_of lp) basis

@@ -8,7 +8,7 @@ use Rattle.bz_algebra.specs.Numbers.{IsNarrow}
 use Rattle.bz_tableau.specs.Dense.{entry}
 use Rattle.bz_tableau.specs.Laws.{place}
 use Rattle.bz_tableau.specs.Tables.{Table, shown}
-use Rattle.bz_lex.specs.Refusals.{at_number}
+use Rattle.bz_tableau.specs.WidePlaces.{at_number}
 use Rattle.bz_lex.specs.Shown.{IsOrderOf, own_entry, IsOver, IsWideOver, AreValuesTo, IsFirstWideOver}
 use Rattle.bz_algebra.proofs.Ring.{cancel_right, positive-ne}
 use Rattle.bz_lex.proofs.LeastMultiples.{wide_if}

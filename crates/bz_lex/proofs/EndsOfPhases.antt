@@ -9,7 +9,7 @@ use Rattle.bz_tableau.specs.Tables.{Table, IsTableauOf, shown, factor_column}
 use Rattle.bz_lex.specs.declared.phase.PhaseEnd.{PhaseEnd}
 use Rattle.bz_lex.specs.declared.phase.PhaseEnd.TheVariants.{Least, Falls}
 use Rattle.bz_lex.specs.Phases.{IsPhaseEnd, IsPhaseTable}
-use Rattle.bz_lex.specs.Refusals.{HasAnswerSigns}
+use Rattle.bz_tableau.specs.WidePlaces.{HasAnswerSigns}
 use Rattle.bz_lex.specs.Shown.{HasPoint, IsFree, IsFreeFall, IsFirstFall}
 use Rattle.bz_lex.proofs.RelaxedTables.{relaxed_rises}
 use Rattle.bz_lex.proofs.ShownAnswers.{ray_column, least_signs_are, ray_signs_are}

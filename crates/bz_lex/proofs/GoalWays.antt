@@ -14,8 +14,9 @@ use Rattle.bz_tableau.specs.Pivots.{IsPivoted}
 use Rattle.bz_tableau.specs.Programs.{program_of, lp_equations}
 use Rattle.bz_tableau.specs.Tables.{Table, IsTableauOf, shown, factor_column}
 use Rattle.bz_tableau.proofs.RowsOfBasis.{rows_of_basis}
+use Rattle.bz_lex.specs.Refusals.{IsFirstStop}
 use Rattle.bz_lex.specs.Shown.{HasPoint}
-use Rattle.bz_lex.specs.Stops.{IsPointBasis, IsOnTheWay, IsTrueStop}
+use Rattle.bz_tableau.specs.Stops.{IsPointBasis, IsOnTheWay}
 use Rattle.bz_lex.specs.Ways.{IsEntryIn, StandsIn, Stays, IsBrought, IsRefusedWay}
 use Rattle.bz_lex.proofs.ShownBases.{few_rows, has_point}
 use Rattle.bz_lex.proofs.TowardsTables.{slack_places, pivoted_count, pivoted_place, table_exchange, pivoted_within}
@@ -113,7 +114,7 @@ module _ (n : ℕ) (relaxed : Bool) (lp : Lp) (goal : List ℕ) (t : Table) (h :
     kind = inr (inr (record { entering = inr (f.at, omega (arith, f.inside, g.is_basis.count), f.column_is); basic = on_way }));
   }
 
-  pub way_refused : (stop : LpStop) → IsRefusedWay t n goal stop → IsTrueStop lp stop
+  pub way_refused : (stop : LpStop) → IsRefusedWay t n goal stop → IsFirstStop lp stop
   way_refused stop w = true_way_stop relaxed lp t h.tableau n w.column goal stop (may_pivot w.column w.enters) w.refusal
 
 -- at the end the columns are those of the goal

@@ -10,12 +10,11 @@ use Rattle.bz_tableau.specs.declared.answers.Answer.{Answer}
 use Rattle.bz_tableau.specs.declared.answers.Answer.TheVariants.{Least, Empty, Ray}
 use Rattle.bz_tableau.specs.declared.answers.LpStop.{LpStop}
 use Rattle.bz_tableau.specs.declared.programs.Lp.{Lp}
-use Rattle.bz_lex.specs.Answers.{IsLeast, IsRay, IsAnswerOf, AnswersBasis, HasNoAnswer}
-use Rattle.bz_lex.specs.Refusals.{IsRayBasis, IsFirstWidePlace, HasNoWidePlace, HasAnswerSigns, IsAnswerRefusal}
+use Rattle.bz_tableau.specs.Answers.{IsLeast, IsRay, IsAnswerOf, AnswersBasis, HasNoAnswer}
+use Rattle.bz_tableau.specs.WidePlaces.{at_number, HasAnswerSigns, IsTrueDen}
+use Rattle.bz_lex.specs.Refusals.{NamesFirstPlace, IsAnswerRefusal, IsFirstRay, IsFirstWidePlace, HasNoWidePlace}
 use Rattle.bz_lex.specs.Shown.{HasPoint, HasLeastCost, IsFreeFall, IsFirstFall, own_entry, IsNarrowLeast, IsShownOrder, ShowsLeast, ShowsRay, GoesWideAtLeast, GoesWideAtRay, IsFirstWideRay, IsWideOver, AnswersShown}
-use Rattle.bz_lex.specs.Points.{IsRayColumn}
-use Rattle.bz_lex.specs.Refusals.{at_number}
-use Rattle.bz_lex.proofs.AnswersOfSigns.{answer_of_signs}
+use Rattle.bz_tableau.specs.Points.{IsRayColumn}
 use Rattle.bz_lex.proofs.Moves.{order_of, none_wide}
 use Rattle.bz_lex.proofs.ShownAnswers.{ray_falls, ray_column, same_column, ray_is, no_ray, least_is, none_is_wide, wide_multiple, wide_value, wide_move, least_signs_are, ray_signs_are}
 use Rattle.bz_lex.proofs.ShownBases.{few_rows, has_point, shown_basis, is_order, number_small, point_of_answer, cost_of_answer}
@@ -25,6 +24,37 @@ abbrev pub IsRightOutcome : Bool → Lp → List ℕ → Result Answer ℕ → T
 IsRightOutcome relaxed lp basis o = MatchResult o (λ a. IsAnswerOf relaxed lp basis a × HasNoWidePlace relaxed lp basis) (λ k. HasAnswerSigns relaxed (program_of lp) basis × IsFirstWidePlace relaxed (program_of lp) (place basis) k)
 
 -- ---- what is returned
+-- the first wide place is a wide place
+true_den : (relaxed : Bool) (lp : Lp) (basis : List ℕ) (k : ℕ) → HasAnswerSigns relaxed (program_of lp) basis → IsFirstWidePlace relaxed (program_of lp) (place basis) k → IsTrueDen relaxed (program_of lp) basis k
+true_den relaxed lp basis k signs w = record {
+  has_answer = signs;
+  order = w.order;
+  is_order = w.is_order;
+  inside = w.inside;
+  wide = record {
+    inside = w.wide.inside;
+    before_slacks = w.wide.before_slacks;
+    wide = elim w.wide.wide [
+      | inl m ↦ inl m
+      | inr v ↦ inr (record {
+        den = v.den;
+        denominator = v.denominator;
+        narrow = v.narrow;
+        row = v.row;
+        is_row = v.is_row;
+        times = v.times;
+        times_is = v.times_is;
+        wide = elim v.wide [ inl x ↦ inl x | inr x ↦ inr (x.0, record { unrelaxed = x.1.unrelaxed; makes = x.1.ray.makes }, x.2) ];
+      })
+    ];
+  };
+}
+
+pub outcome_first : (relaxed : Bool) (lp : Lp) (basis : List ℕ) (o : Result Answer ℕ) (r : Result (Option Answer) LpStop) → AnswersShown relaxed basis o r → IsRightOutcome relaxed lp basis o → IfErr r (λ stop. NamesFirstPlace lp stop)
+outcome_first relaxed lp basis (Ok a) r e h = subst (λ (x : Result (Option Answer) LpStop). IfErr x (λ stop. NamesFirstPlace lp stop)) (sym e) tt
+outcome_first relaxed lp basis (Err k) r (inl e) h = subst (λ (x : Result (Option Answer) LpStop). IfErr x (λ stop. NamesFirstPlace lp stop)) (sym e) h.1
+outcome_first relaxed lp basis (Err k) r (inr e) h = subst (λ (x : Result (Option Answer) LpStop). IfErr x (λ stop. NamesFirstPlace lp stop)) (sym e) tt
+
 pub outcome_answer : (relaxed : Bool) (lp : Lp) (basis : List ℕ) (o : Result Answer ℕ) (r : Result (Option Answer) LpStop) → AnswersShown relaxed basis o r → IsRightOutcome relaxed lp basis o → IfOk r (λ a. AnswersBasis relaxed lp basis a)
 outcome_answer relaxed lp basis (Ok a) r e h = subst (λ (x : Result (Option Answer) LpStop). IfOk x (λ a. AnswersBasis relaxed lp basis a)) (sym e) h.0
 outcome_answer relaxed lp basis (Err k) r (inl e) h = subst (λ (x : Result (Option Answer) LpStop). IfOk x (λ a. AnswersBasis relaxed lp basis a)) (sym e) tt
@@ -37,7 +67,7 @@ outcome_narrow relaxed lp basis (Err k) r (inr e) h = subst (λ (x : Result (Opt
 
 pub outcome_refused : (relaxed : Bool) (lp : Lp) (basis : List ℕ) (o : Result Answer ℕ) (r : Result (Option Answer) LpStop) → AnswersShown relaxed basis o r → IsRightOutcome relaxed lp basis o → IfErr r (λ stop. IsAnswerRefusal relaxed lp basis stop)
 outcome_refused relaxed lp basis (Ok a) r e h = subst (λ (x : Result (Option Answer) LpStop). IfErr x (λ stop. IsAnswerRefusal relaxed lp basis stop)) (sym e) tt
-outcome_refused relaxed lp basis (Err k) r (inl e) h = subst (λ (x : Result (Option Answer) LpStop). IfErr x (λ stop. IsAnswerRefusal relaxed lp basis stop)) (sym e) (record { relaxed_is = refl; basis_is = refl; has_answer = answer_of_signs relaxed lp basis h.0; wide = h.1 })
+outcome_refused relaxed lp basis (Err k) r (inl e) h = subst (λ (x : Result (Option Answer) LpStop). IfErr x (λ stop. IsAnswerRefusal relaxed lp basis stop)) (sym e) (record { relaxed_is = refl; basis_is = refl; wide = true_den relaxed lp basis k h.0 h.1 })
 outcome_refused relaxed lp basis (Err k) r (inr e) h = subst (λ (x : Result (Option Answer) LpStop). IfErr x (λ stop. IsAnswerRefusal relaxed lp basis stop)) (sym e) tt
 
 -- ---- a point of least cost
@@ -65,11 +95,11 @@ module _ (relaxed : Bool) (lp : Lp) (t : Table) (h : IsTableauOf relaxed lp t) (
 
 -- ---- a ray
 module _ (lp : Lp) (t : Table) (h : IsTableauOf false lp t) (p : HasPoint t) (column : ℕ) (f : IsFirstFall t column) where
-  basis_of_ray : IsRayBasis false (program_of lp) (place t.basis) column
+  basis_of_ray : IsFirstRay false (program_of lp) (place t.basis) column
   basis_of_ray = record { unrelaxed = refl; ray = ray_column lp t h column f }
 
   -- what isn't wide in the column isn't in the column of a ray
-  moved : (order : List ℕ) (den : ℤ) (k n : ℕ) → (IsWideOver (neg_ℤ den) (own_entry t order k) (shown t (at_number order k) column) → ⊥) → IsRayBasis false (program_of lp) (place t.basis) n → IsWideOver (neg_ℤ den) (own_entry t order k) (shown t (at_number order k) n) → ⊥
+  moved : (order : List ℕ) (den : ℤ) (k n : ℕ) → (IsWideOver (neg_ℤ den) (own_entry t order k) (shown t (at_number order k) column) → ⊥) → IsFirstRay false (program_of lp) (place t.basis) n → IsWideOver (neg_ℤ den) (own_entry t order k) (shown t (at_number order k) n) → ⊥
   moved order den k n none r w = none (subst (λ (j : ℕ). IsWideOver (neg_ℤ den) (own_entry t order k) (shown t (at_number order k) j)) (same_column lp t h column n f r.ray) w)
 
   first_ray : (order : List ℕ) (k : ℕ) → IsShownOrder t order → (den : ℤ) → IsNarrowLeast (length order) (own_entry t order) den → IsFirstWideRay t order den column k → IsFirstWidePlace false (program_of lp) (place t.basis) k
@@ -154,7 +184,7 @@ module _ (relaxed : Bool) (lp : Lp) (t : Table) (h : IsTableauOf relaxed lp t) w
   pub no_signs_without_cost : (HasLeastCost t → ⊥) → (relaxed ≡ false → (c : ℕ) → IsFreeFall t c → ⊥) → HasAnswerSigns relaxed (program_of lp) t.basis → ⊥
   no_signs_without_cost n m s = elim s.signs [
     | inl l ↦ n (cost_of_answer relaxed lp t h l.den l.y l.objective l.bounds)
-    | inr r ↦ m r.1.unrelaxed r.0 (ray_falls lp t (unrelaxed r.1.unrelaxed) r.0 r.1.ray.makes)
+    | inr r ↦ m r.1.unrelaxed r.0 (ray_falls lp t (unrelaxed r.1.unrelaxed) r.0 r.1.makes)
   ]
 
 pub ray_right : (relaxed : Bool) (lp : Lp) (t : Table) → IsTableauOf relaxed lp t → relaxed ≡ false → HasPoint t → (column : ℕ) → IsFirstFall t column → (o : Result Answer ℕ) → MatchResult o (λ a. ShowsRay t column a) (λ k. GoesWideAtRay t column k) → IsRightOutcome relaxed lp t.basis o

@@ -18,7 +18,7 @@ use Rattle.bz_tableau.specs.declared.programs.Lp.{Lp}
 use Rattle.bz_lex.specs.Lexicographic.{lead}
 use Rattle.bz_lex.specs.Phases.{columns_of, IsEntering, IsOnPhase, IsPhasePivot, IsPhaseWay, IsPhaseTable, IsPhaseStop, MeetsNoBasisTwice}
 use Rattle.bz_lex.specs.Shown.{HasPoint}
-use Rattle.bz_lex.specs.Stops.{IsRowAt, EntersAtGoal}
+use Rattle.bz_tableau.specs.Stops.{IsRowAt, EntersAtGoal}
 use Rattle.bz_lex.specs.TableStages.{shown_order, IsLeavingRow, IsTableStage}
 use Rattle.bz_lex.proofs.LexOrder.{positive_start}
 use Rattle.bz_lex.proofs.ShownBases.{all_rows, count_is}
@@ -165,7 +165,7 @@ refusal_stop first t r e g enters leaves stop n = record {
 
 -- want of memory needs no reason
 pub memory_stop : (t : Table) → IsPhaseStop t OutOfMemory
-memory_stop t = record { is_true = λ relaxed lp h. tt; is_relaxed = λ lp h. tt }
+memory_stop t = record { is_true = λ relaxed lp h. record { is_true = tt; first = tt }; is_relaxed = λ lp h. record { is_true = tt; first = tt } }
 
 -- a table that stays is no basis twice
 pub once_first : (t : Table) → MeetsNoBasisTwice t t

@@ -7,11 +7,11 @@ use Rattle.bz_algebra.specs.Tableaus.{Equations, side, Program, IsRow, IsTableau
 use Rattle.bz_algebra.proofs.Bounded.{by_lt}
 use Rattle.bz_algebra.proofs.Programs.{combination_columns, objective_row, factor_off}
 use Rattle.bz_algebra.proofs.Ring.{*ℤ_assoc, neg_mul, mul_add, add_mul, mul_zero, zero_mul, mul_nonnegative, cancel_le_right}
-use Rattle.bz_algebra.proofs.SumLemmas.{upto_same, upto_add, upto_scale, upto_scale_right, upto_split, upto_only, upto_zeros}
+use Rattle.bz_algebra.proofs.SumLemmas.{upto_same, upto_add, upto_scale, upto_rows, upto_scale_right, upto_split, upto_only, upto_zeros}
 use Rattle.bz_tableau.proofs.OneObjective.{objective_is as objective_of}
-use Rattle.bz_lex.proofs.Wholes.{IsWhole, only_zero, extended, extended_before, extended_slack, extended_meets, whole_of_half, basic_or_not, sums_at}
-use Rattle.bz_lex.specs.Answers.{AreMultipliersFor, IsSameCost}
-use Rattle.bz_lex.specs.Points.{IsOutside, terms, IsPoint, MeetsRows}
+use Rattle.bz_lex.proofs.Wholes.{IsWhole, only_zero, extended, extended_before, extended_slack, extended_meets, whole_of_half, basic_or_not}
+use Rattle.bz_tableau.specs.Answers.{AreMultipliersFor, IsSameCost}
+use Rattle.bz_tableau.specs.Points.{IsOutside, terms, IsPoint, MeetsRows}
 
 -- ---- the point
 module _ (s : Equations) (basis : ℕ → ℕ) (w : ℕ → ℕ → ℤ) (tableau : IsTableau s basis w) (z : ℕ → ℤ) (den : ℤ) (point : IsPoint s basis z den) where
@@ -116,7 +116,7 @@ module _ (relaxed : Bool) (p : Program) (basis : ℕ → ℕ) (w : ℕ → ℕ �
       columns =
           upto_same all.slack _ _ (λ j b. ap (λ (t : ℤ). t *ℤ f j) (last_columns j b) ∙ add_mul (upto p.rows (λ i. y i *ℤ row_entry relaxed p i j)) (den *ℤ objective_entry relaxed p j) (f j))
           ∙ upto_add all.slack (λ j. upto p.rows (λ i. y i *ℤ row_entry relaxed p i j) *ℤ f j) (λ j. (den *ℤ objective_entry relaxed p j) *ℤ f j)
-          ∙ (λ k. sums_at all.slack p.rows y (row_entry relaxed p) f k
+          ∙ (λ k. upto_rows all.slack p.rows y (row_entry relaxed p) f k
           +ℤ (upto_same all.slack (λ j. (den *ℤ objective_entry relaxed p j) *ℤ f j) (λ j. den *ℤ (objective_entry relaxed p j *ℤ f j)) (λ j b. *ℤ_assoc den (objective_entry relaxed p j) (f j)) ∙ upto_scale all.slack den (λ j. objective_entry relaxed p j *ℤ f j)) k)
 
       rows : upto p.rows (λ i. y i *ℤ terms few f i) +ℤ upto p.rows (λ i. y i *ℤ f (all.slack + i)) ≡ upto p.rows (λ i. y i *ℤ p.rhs i) *ℤ r

@@ -13,7 +13,7 @@ use Rattle.bz_algebra.proofs.Bounded.{by_lt, choose}
 use Rattle.bz_algebra.proofs.Ring.{*ℤ_assoc}
 use Rattle.bz_algebra.proofs.Uniqueness.{row_unique}
 use Rattle.bz_tableau.specs.Dense.{entry}
-use Rattle.bz_lex.specs.Points.{IsOutside, IsCommonDenominator, IsPoint}
+use Rattle.bz_tableau.specs.Points.{IsOutside, IsCommonDenominator, IsPoint}
 use Rattle.bz_lex.proofs.LeastMultiples.{positive_is, multiple_of, least_exists}
 use Rattle.bz_lex.proofs.Wholes.{basic_or_not}
 

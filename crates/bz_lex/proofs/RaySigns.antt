@@ -11,7 +11,7 @@ use Rattle.bz_algebra.proofs.Ring.{*ℤ_assoc, mul_left, mul_zero, zero_mul, neg
 use Rattle.bz_algebra.proofs.SumLemmas.{upto_same, upto_scale}
 use Rattle.bz_lex.proofs.PointSigns.{last_basic, last_positive, objective_sum, objective_at}
 use Rattle.bz_lex.proofs.Wholes.{IsWhole, only_at, only_here, only_off, extended, extended_before, extended_slack, extended_meets, whole_meets, basic_or_not, balance, upto_two, total_of, total_positive, total_times}
-use Rattle.bz_lex.specs.Points.{IsOutside, terms, IsDirection, FallsFreely, MakesRay}
+use Rattle.bz_tableau.specs.Points.{IsOutside, terms, IsDirection, FallsFreely, MakesRay}
 
 -- the objective row is negative in the column, and no row of the basis is positive there
 pub record AreRaySigns (p : Program) (v : ℕ → ℕ → ℤ) (last : ℕ → ℤ) (c : ℕ) : Type 0 where

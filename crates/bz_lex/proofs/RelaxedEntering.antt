@@ -13,7 +13,7 @@ use Rattle.bz_tableau.specs.Laws.{place, HasRowsOfBasis}
 use Rattle.bz_tableau.specs.Programs.{program_of}
 use Rattle.bz_tableau.specs.Tables.{Table, IsTableauOf, shown, factor_column}
 use Rattle.bz_tableau.proofs.RowsOfBasis.{rows_of_basis}
-use Rattle.bz_lex.specs.Stops.{IsPointBasis}
+use Rattle.bz_tableau.specs.Stops.{IsPointBasis}
 use Rattle.bz_lex.specs.Ways.{right_side, IsLeastRightTo}
 use Rattle.bz_lex.proofs.RelaxedStarts.{slack_rows, lowest_right}
 use Rattle.bz_lex.proofs.ShownBases.{few_rows}

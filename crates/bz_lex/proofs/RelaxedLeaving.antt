@@ -12,7 +12,7 @@ use Rattle.bz_tableau.specs.Tables.{Table, IsTableauOf, number, shown, factor_co
 use Rattle.bz_tableau.proofs.RowsOfBasis.{rows_of_basis}
 use Rattle.bz_lex.specs.Renumbering.{unrelaxed_basis, relaxed_number}
 use Rattle.bz_lex.specs.Shown.{HasPoint}
-use Rattle.bz_lex.specs.Stops.{IsPointBasis, LeavesWithZero}
+use Rattle.bz_tableau.specs.Stops.{IsPointBasis, LeavesWithZero}
 use Rattle.bz_lex.specs.Ways.{right_side, IsOtherEntry, HasNoOtherEntry, IsRenumbered}
 use Rattle.bz_lex.proofs.RelaxedTables.{relaxed_s_right, relaxed_other_entry, zero_right_point, table_unrelaxed}
 use Rattle.bz_lex.proofs.TablesOnTheWay.{shown_side}

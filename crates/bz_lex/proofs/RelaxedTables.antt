@@ -13,7 +13,7 @@ use Rattle.bz_tableau.specs.Pivots.{IsPivoted}
 use Rattle.bz_tableau.specs.Programs.{program_of, lp_equations}
 use Rattle.bz_tableau.specs.Tables.{Table, IsTableOf, IsTableauOf, own, number, shown, factor_column}
 use Rattle.bz_tableau.proofs.RowsOfBasis.{rows_of_basis}
-use Rattle.bz_lex.specs.Answers.{IsEmpty}
+use Rattle.bz_tableau.specs.Answers.{IsEmpty}
 use Rattle.bz_lex.specs.Renumbering.{unrelaxed_basis}
 use Rattle.bz_lex.specs.Shown.{HasPoint, HasLeastCost, AreMultipliersShown}
 use Rattle.bz_lex.proofs.PhaseOne.{entering_rises, objective_right, s_right, empty_columns, empty_right}

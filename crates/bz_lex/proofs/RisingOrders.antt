@@ -6,7 +6,7 @@ use Rattle.std.proofs.Math.Seq.{get_or-append_seam}
 use Rattle.std.proofs.lemmas.Bool.{cases_eq}
 use Rattle.std.proofs.lemmas.List.{length-append}
 use Rattle.bz_algebra.proofs.Bounded.{below_suc}
-use Rattle.bz_lex.specs.Refusals.{IsRisingOrder, at_number}
+use Rattle.bz_tableau.specs.WidePlaces.{IsRisingOrder, at_number}
 
 -- the place that was put behind the others, and those before it
 pub at_end : (order : List ℕ) (i : ℕ) → at_number (order ++ i ∷ []) (length order) ≡ i

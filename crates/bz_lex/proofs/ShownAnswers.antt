@@ -15,9 +15,10 @@ use Rattle.bz_tableau.specs.Tables.{Table, number, shown, factor_column, IsTable
 use Rattle.bz_tableau.specs.declared.answers.Vals.{Vals}
 use Rattle.bz_tableau.specs.declared.programs.Lp.{Lp}
 use Rattle.bz_tableau.proofs.RowsOfBasis.{rows_of_basis}
-use Rattle.bz_lex.specs.Answers.{IsLeast, IsRay}
-use Rattle.bz_lex.specs.Points.{IsOutside, IsPoint, IsDirection, FallsFreely, MakesRay, IsRayColumn}
-use Rattle.bz_lex.specs.Refusals.{at_number, IsRayBasis, IsWideValue, IsWidePlace, IsFirstWidePlace, HasNoWidePlace, HasAnswerSigns}
+use Rattle.bz_tableau.specs.Answers.{IsLeast, IsRay}
+use Rattle.bz_tableau.specs.Points.{IsOutside, IsPoint, IsDirection, FallsFreely, MakesRay, IsRayColumn}
+use Rattle.bz_tableau.specs.WidePlaces.{at_number, IsWideValue, HasAnswerSigns}
+use Rattle.bz_lex.specs.Refusals.{IsWideForFirst, IsFirstRay, IsFirstWidePlace, HasNoWidePlace}
 use Rattle.bz_lex.specs.Shown.{HasPoint, HasLeastCost, IsFreeFall, IsFirstFall, own_entry, IsLeastTo, IsNarrowLeast, IsFirstWideLeast, IsWideOver, IsShownOrder, IsShownLeast, IsShownMove, IsShownRay}
 use Rattle.bz_lex.proofs.LeastMultiples.{least_divides, divides_narrow, least_same}
 use Rattle.bz_tableau.proofs.OneObjective.{objective_same}
@@ -143,7 +144,7 @@ module _ (lp : Lp) (t : Table) (h : IsTableauOf false lp t) where
 -- ---- points of least cost
 module _ (relaxed : Bool) (lp : Lp) (t : Table) (h : IsTableauOf relaxed lp t) where
   -- a basis of least cost is no ray
-  pub no_ray : HasLeastCost t → (c : ℕ) → IsRayBasis relaxed (program_of lp) (place t.basis) c → ⊥
+  pub no_ray : HasLeastCost t → (c : ℕ) → IsFirstRay relaxed (program_of lp) (place t.basis) c → ⊥
   no_ray least c r = let f = ray_falls lp t (subst (λ (b : Bool). IsTableauOf b lp t) r.unrelaxed h) c r.ray.makes in omega (arith, ints, least c f.inside, f.falls)
 
   pub least_is : (named_basis : List ℕ) (z y : Vals) → HasPoint t → HasLeastCost t → IsShownLeast t named_basis z y → IsLeast relaxed (program_of lp) t.basis z y
@@ -174,14 +175,14 @@ module _ (relaxed : Bool) (lp : Lp) (t : Table) (h : IsTableauOf relaxed lp t) w
 
   -- ---- no wide place
   module _ (order : List ℕ) (shown_order : IsShownOrder t order) (den : ℤ) (narrow : IsNarrowLeast (length order) (own_entry t order) den) (values : (k : ℕ) → k < length order → IsWideOver den (own_entry t order k) (shown t (at_number order k) (factor_column t)) → ⊥)
-      (moves : (k c : ℕ) → k < length order → IsRayBasis relaxed (program_of lp) (place t.basis) c → IsWideOver (neg_ℤ den) (own_entry t order k) (shown t (at_number order k) c) → ⊥) where
+      (moves : (k c : ℕ) → k < length order → IsFirstRay relaxed (program_of lp) (place t.basis) c → IsWideOver (neg_ℤ den) (own_entry t order k) (shown t (at_number order k) c) → ⊥) where
     pub none_is_wide : HasNoWidePlace relaxed lp t.basis
     none_is_wide i w = let f = find relaxed lp t h order shown_order i w.inside w.before_slacks in
         not_wide relaxed lp t h order shown_order f.0 f.1
         (λ m g. narrow_multiples (length order) f.0 (own_entry t order) den m f.1 narrow g)
         (λ e g x. values f.0 f.1 (subst (λ (y : ℤ). IsWideOver y (own_entry t order f.0) (shown t (at_number order f.0) (factor_column t))) (least_same (length order) (own_entry t order) e den g.is_least narrow.is_least) x))
         (λ e c g r b x. moves f.0 c f.1 r (subst (λ (y : ℤ). IsWideOver (neg_ℤ y) (own_entry t order f.0) (shown t (at_number order f.0) c)) (least_same (length order) (own_entry t order) e den g.is_least narrow.is_least) x))
-        (subst (λ (j : ℕ). IsWidePlace relaxed (program_of lp) (place t.basis) j) (sym f.2) w)
+        (subst (λ (j : ℕ). IsWideForFirst relaxed (program_of lp) (place t.basis) j) (sym f.2) w)
 
   -- ---- the first wide place
   module _ (order : List ℕ) (shown_order : IsShownOrder t order) (k : ℕ) where
@@ -206,8 +207,8 @@ module _ (relaxed : Bool) (lp : Lp) (t : Table) (h : IsTableauOf relaxed lp t) w
 
     module _ (den : ℤ) (narrow : IsNarrowLeast (length order) (own_entry t order) den) (inside : k < length order)
         (values : (l : ℕ) → l < k → IsWideOver den (own_entry t order l) (shown t (at_number order l) (factor_column t)) → ⊥)
-        (moves : (l c : ℕ) → l < k → IsRayBasis relaxed (program_of lp) (place t.basis) c → IsWideOver (neg_ℤ den) (own_entry t order l) (shown t (at_number order l) c) → ⊥) where
-      first_at : IsWideValue relaxed (program_of lp) (place t.basis) (at_number order k) → IsFirstWidePlace relaxed (program_of lp) (place t.basis) k
+        (moves : (l c : ℕ) → l < k → IsFirstRay relaxed (program_of lp) (place t.basis) c → IsWideOver (neg_ℤ den) (own_entry t order l) (shown t (at_number order l) c) → ⊥) where
+      first_at : IsWideValue (rows_of relaxed (program_of lp)) (IsFirstRay relaxed (program_of lp) (place t.basis)) (place t.basis) (at_number order k) → IsFirstWidePlace relaxed (program_of lp) (place t.basis) k
       first_at w = record {
         order = order;
         is_order = is_order relaxed lp t h order shown_order;
@@ -235,7 +236,7 @@ module _ (relaxed : Bool) (lp : Lp) (t : Table) (h : IsTableauOf relaxed lp t) w
         wide = inl (subst (λ (j : ℕ). IsWide (shown t (at_number order k) j *ℤ w.times)) (side_is relaxed lp t h) w.wide);
       })
 
-      pub wide_move : (c : ℕ) → IsRayBasis relaxed (program_of lp) (place t.basis) c → IsWideOver (neg_ℤ den) (own_entry t order k) (shown t (at_number order k) c) → IsFirstWidePlace relaxed (program_of lp) (place t.basis) k
+      pub wide_move : (c : ℕ) → IsFirstRay relaxed (program_of lp) (place t.basis) c → IsWideOver (neg_ℤ den) (own_entry t order k) (shown t (at_number order k) c) → IsFirstWidePlace relaxed (program_of lp) (place t.basis) k
       wide_move c r w = first_at (record {
         den = den;
         denominator = common_denominator relaxed lp t h order shown_order den narrow.is_least;
@@ -253,5 +254,5 @@ module _ (relaxed : Bool) (lp : Lp) (t : Table) (h : IsTableauOf relaxed lp t) w
   pub least_signs_are : HasPoint t → HasLeastCost t → HasAnswerSigns relaxed (program_of lp) t.basis
   least_signs_are p c = record { is_basis = basis_list relaxed lp t h; right_sides = any_right_side relaxed lp t h p; signs = inl (least_signs relaxed lp t h c) }
 
-  pub ray_signs_are : (c : ℕ) → HasPoint t → IsRayBasis relaxed (program_of lp) (place t.basis) c → HasAnswerSigns relaxed (program_of lp) t.basis
-  ray_signs_are c p r = record { is_basis = basis_list relaxed lp t h; right_sides = any_right_side relaxed lp t h p; signs = inr (c, r) }
+  pub ray_signs_are : (c : ℕ) → HasPoint t → IsFirstRay relaxed (program_of lp) (place t.basis) c → HasAnswerSigns relaxed (program_of lp) t.basis
+  ray_signs_are c p r = record { is_basis = basis_list relaxed lp t h; right_sides = any_right_side relaxed lp t h p; signs = inr (c, record { unrelaxed = r.unrelaxed; makes = r.ray.makes }) }

@@ -17,9 +17,10 @@ use Rattle.bz_tableau.specs.Tables.{Table, number, shown, factor_column, IsTable
 use Rattle.bz_tableau.specs.declared.answers.Vals.{Vals}
 use Rattle.bz_tableau.specs.declared.programs.Lp.{Lp}
 use Rattle.bz_tableau.proofs.RowsOfBasis.{rows_of_basis}
-use Rattle.bz_lex.specs.Answers.{IsBasisList, AreMultipliersFor}
-use Rattle.bz_lex.specs.Points.{IsMultipleOfEntries, IsLeastMultiple, IsCommonDenominator, IsPoint, MeetsRows}
-use Rattle.bz_lex.specs.Refusals.{at_number, IsRisingOrder, HasLeastSigns, IsRayBasis, IsWideValue, IsWidePlace}
+use Rattle.bz_tableau.specs.Answers.{IsBasisList, AreMultipliersFor}
+use Rattle.bz_tableau.specs.Points.{IsMultipleOfEntries, IsLeastMultiple, IsCommonDenominator, IsPoint, MeetsRows}
+use Rattle.bz_tableau.specs.WidePlaces.{at_number, IsRisingOrder, HasLeastSigns, IsWideValue}
+use Rattle.bz_lex.specs.Refusals.{IsWideForFirst, IsFirstRay}
 use Rattle.bz_lex.specs.Shown.{HasPoint, HasLeastCost, own_entry, IsShownBasis, IsMultipleTo, IsLeastTo, IsNarrowLeast, IsOver, IsWideOver, IsShownOrder, IsShownPoint}
 use Rattle.bz_lex.proofs.PointSigns.{point_signs, multipliers_by_signs, signs_by_multipliers}
 
@@ -163,14 +164,14 @@ module _ (relaxed : Bool) (lp : Lp) (t : Table) (h : IsTableauOf relaxed lp t) w
       -- where no multiple up to it and no value is wide, the place isn't
       pub not_wide : ((m : ℤ) → IsLeastTo (suc l) (own_entry t order) m → IsNarrow m)
           → ((den : ℤ) → IsNarrowLeast (length order) (own_entry t order) den → IsWideOver den (own_entry t order l) (shown t (at_number order l) (factor_column t)) → ⊥)
-          → ((den : ℤ) (c : ℕ) → IsNarrowLeast (length order) (own_entry t order) den → IsRayBasis relaxed program basis c → c < side few → IsWideOver (neg_ℤ den) (own_entry t order l) (shown t (at_number order l) c) → ⊥)
-          → IsWidePlace relaxed program basis (at_number order l) → ⊥
+          → ((den : ℤ) (c : ℕ) → IsNarrowLeast (length order) (own_entry t order) den → IsFirstRay relaxed program basis c → c < side few → IsWideOver (neg_ℤ den) (own_entry t order l) (shown t (at_number order l) c) → ⊥)
+          → IsWideForFirst relaxed program basis (at_number order l) → ⊥
       not_wide multiples values moves w = elim w.wide [
         | inl m ↦ omega (arith, m.wide, multiples m.multiple (of_multiple m.multiple m.is_multiple))
         | inr v ↦ not_value v
       ]
         where
-          not_value : IsWideValue relaxed program basis (at_number order l) → ⊥
+          not_value : IsWideValue few (IsFirstRay relaxed program basis) basis (at_number order l) → ⊥
           not_value v = elim v.wide [
             | inl x ↦ values v.den least (record { times = v.times; times_is = times_is; wide = subst (λ (y : ℤ). IsWide (y *ℤ v.times)) (sym (same (side few) (omega arith)) ∙ ap (λ (j : ℕ). shown t (at_number order l) j) (sym side_is)) x })
             | inr x ↦ let inside : x.0 < side few = subst (λ (r : Bool). x.0 < side (rows_of r program)) (sym x.1.unrelaxed) x.1.ray.makes.1.inside in moves v.den x.0 least x.1 inside (record {

@@ -13,8 +13,9 @@ use Rattle.bz_tableau.specs.Programs.{program_of}
 use Rattle.bz_tableau.specs.Refusals.{IsRefusal}
 use Rattle.bz_tableau.specs.Tables.{Table, IsTableauOf, number, shown, factor_column}
 use Rattle.bz_tableau.proofs.RowsOfBasis.{rows_of_basis}
+use Rattle.bz_lex.specs.Refusals.{IsFirstStop, IsFirstRelaxedStop}
 use Rattle.bz_lex.specs.Shown.{HasPoint}
-use Rattle.bz_lex.specs.Stops.{IsPointBasis, IsWideClearing, EntersAtGoal, LeavesWithZero, GoesToGoal, IsTruePivot, IsTrueWide, IsTrueStop, IsTrueRelaxedStop}
+use Rattle.bz_tableau.specs.Stops.{IsPointBasis, IsWideClearing, EntersAtGoal, LeavesWithZero, GoesToGoal, IsTruePivot, IsTrueWide}
 use Rattle.bz_lex.specs.Ways.{IsWayRefusal}
 use Rattle.bz_lex.proofs.ShownBases.{basis_list, any_right_side}
 use Rattle.bz_lex.proofs.TablesOnTheWay.{shown_column}
@@ -67,10 +68,10 @@ module _ (relaxed : Bool) (lp : Lp) (t : Table) (h : IsTableauOf relaxed lp t) w
   }
 
   -- ---- refusals
-  pub true_way_stop : (r e : ℕ) (goal : List ℕ) (stop : LpStop) → MayPivot relaxed lp t r e goal → IsWayRefusal t r e goal stop → IsTrueStop lp stop
-  true_way_stop r e goal OutOfMemory m w = tt
+  pub true_way_stop : (r e : ℕ) (goal : List ℕ) (stop : LpStop) → MayPivot relaxed lp t r e goal → IsWayRefusal t r e goal stop → IsFirstStop lp stop
+  true_way_stop r e goal OutOfMemory m w = record { is_true = tt; first = tt }
   true_way_stop r e goal (Wide (Build row)) m w = absurd w
-  true_way_stop r e goal (Wide (Pivot named_relaxed basis named row pivot_row column)) m w = subst (λ (at : WideAt). IsTrueWide lp at) same (true_pivot r e row goal m w.wide)
+  true_way_stop r e goal (Wide (Pivot named_relaxed basis named row pivot_row column)) m w = record { is_true = subst (λ (at : WideAt). IsTrueWide lp at) same (true_pivot r e row goal m w.wide); first = tt }
     where
       relaxed_is : named_relaxed ≡ relaxed
       relaxed_is = w.relaxed_is ∙ h.relaxed_is
@@ -84,16 +85,16 @@ module _ (relaxed : Bool) (lp : Lp) (t : Table) (h : IsTableauOf relaxed lp t) w
   true_way_stop r e goal (Wide (Fold named_relaxed basis column list at)) m w = absurd w
 
 -- of a relaxed program
-pub relaxed_way_stop : (lp : Lp) (t : Table) → IsTableauOf true lp t → (r e : ℕ) (goal : List ℕ) (stop : LpStop) → MayPivot true lp t r e goal → IsWayRefusal t r e goal stop → IsTrueRelaxedStop lp stop
-relaxed_way_stop lp t h r e goal OutOfMemory m w = tt
+pub relaxed_way_stop : (lp : Lp) (t : Table) → IsTableauOf true lp t → (r e : ℕ) (goal : List ℕ) (stop : LpStop) → MayPivot true lp t r e goal → IsWayRefusal t r e goal stop → IsFirstRelaxedStop lp stop
+relaxed_way_stop lp t h r e goal OutOfMemory m w = record { is_true = tt; first = tt }
 relaxed_way_stop lp t h r e goal (Wide (Build row)) m w = absurd w
-relaxed_way_stop lp t h r e goal (Wide (Pivot named_relaxed basis named row pivot_row column)) m w = (true_way_stop true lp t h r e goal (Wide (Pivot named_relaxed basis named row pivot_row column)) m w, w.relaxed_is ∙ h.relaxed_is)
+relaxed_way_stop lp t h r e goal (Wide (Pivot named_relaxed basis named row pivot_row column)) m w = record { is_true = ((true_way_stop true lp t h r e goal (Wide (Pivot named_relaxed basis named row pivot_row column)) m w).is_true, w.relaxed_is ∙ h.relaxed_is); first = tt }
 relaxed_way_stop lp t h r e goal (Wide (Den named_relaxed basis at)) m w = absurd w
 relaxed_way_stop lp t h r e goal (Wide (Fold named_relaxed basis column list at)) m w = absurd w
 
-pub stop_of_relaxed : (lp : Lp) (stop : LpStop) → IsTrueRelaxedStop lp stop → IsTrueStop lp stop
-stop_of_relaxed lp (Wide at) w = w.0
-stop_of_relaxed lp OutOfMemory w = tt
+pub stop_of_relaxed : (lp : Lp) (stop : LpStop) → IsFirstRelaxedStop lp stop → IsFirstStop lp stop
+stop_of_relaxed lp (Wide at) w = record { is_true = w.is_true.0; first = w.first }
+stop_of_relaxed lp OutOfMemory w = record { is_true = tt; first = tt }
 
 -- a refusal that names its own basis is on the way to it
 pub own_way : (t : Table) (r e : ℕ) (stop : LpStop) → IsRefusal t r e stop → IsWayRefusal t r e t.basis stop

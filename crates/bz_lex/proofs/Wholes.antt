@@ -9,9 +9,9 @@ use Rattle.bz_algebra.specs.Tableaus.{Equations, side, IsCombination, IsTableau}
 use Rattle.bz_algebra.proofs.Bounded.{by_lt, below_suc, all_or_some, choose}
 use Rattle.bz_algebra.proofs.Programs.{own, own_is, own_row}
 use Rattle.bz_algebra.proofs.Ring.{*ℤ_assoc, mul_add, mul_sub, mul_left, mul_right, mul_zero, zero_mul, one_mul, add_zero, zero_add, cancel_left, mul_positive, positive-ne}
-use Rattle.bz_algebra.proofs.SumLemmas.{upto_same, upto_add, upto_scale, upto_scale_right, upto_swap, upto_split, upto_only}
+use Rattle.bz_algebra.proofs.SumLemmas.{upto_same, upto_add, upto_scale, upto_scale_right, upto_rows, upto_split, upto_only}
 use Rattle.bz_tableau.proofs.Basics.{made_of_rows}
-use Rattle.bz_lex.specs.Points.{IsOutside, terms}
+use Rattle.bz_tableau.specs.Points.{IsOutside, terms}
 
 -- ---- sums of two numbers
 -- f where it isn't at b
@@ -127,13 +127,6 @@ own_sum s f i b =
         ∙ ap (λ (z : ℤ). z *ℤ f (s.slack + i)) ((own_is s i b).own) ∙ one_mul (f (s.slack + i))
 
 -- ---- from the rows to all combinations
--- sums of rows, times y, at f
-pub sums_at : (n m : ℕ) (y : ℕ → ℤ) (e : ℕ → ℕ → ℤ) (f : ℕ → ℤ) → upto n (λ j. upto m (λ i. y i *ℤ e i j) *ℤ f j) ≡ upto m (λ i. y i *ℤ upto n (λ j. e i j *ℤ f j))
-sums_at n m y e f =
-    upto_same n _ _ (λ j b. sym (upto_scale_right m (λ i. y i *ℤ e i j) (f j)))
-    ∙ upto_swap n m (λ j i. (y i *ℤ e i j) *ℤ f j)
-    ∙ upto_same m _ _ (λ i b. upto_same n _ _ (λ j l. *ℤ_assoc (y i) (e i j) (f j)) ∙ upto_scale n (y i) (λ j. e i j *ℤ f j))
-
 -- numbers that meet each row as an equation meet each combination of the rows
 pub balance : (s : Equations) (f : ℕ → ℤ) (r : ℤ) → ((i : ℕ) → i < s.rows → terms s f i +ℤ f (s.slack + i) ≡ s.right i *ℤ r) → (v : ℕ → ℤ) → IsCombination s v → upto (side s) (λ j. v j *ℤ f j) ≡ v (side s) *ℤ r
 balance s f r h v c =
@@ -145,7 +138,7 @@ balance s f r h v c =
     ∙ ap (λ (z : ℤ). z *ℤ r) (sym c.right)
   where
     columns : upto s.slack (λ j. v j *ℤ f j) ≡ upto s.rows (λ i. v (s.slack + i) *ℤ terms s f i)
-    columns = upto_same s.slack _ _ (λ j b. ap (λ (z : ℤ). z *ℤ f j) (c.columns j b)) ∙ sums_at s.slack s.rows (λ i. v (s.slack + i)) s.entry f
+    columns = upto_same s.slack _ _ (λ j b. ap (λ (z : ℤ). z *ℤ f j) (c.columns j b)) ∙ upto_rows s.slack s.rows (λ i. v (s.slack + i)) s.entry f
 
 -- ---- the whole of what a basis says
 -- t at c and 0 elsewhere

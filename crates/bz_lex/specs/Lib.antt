@@ -1,10 +1,7 @@
-pub mod Answers
 pub mod Lexicographic
 pub mod Phases
-pub mod Points
 pub mod Refusals
 pub mod Renumbering
 pub mod Shown
-pub mod Stops
 pub mod TableStages
 pub mod Ways

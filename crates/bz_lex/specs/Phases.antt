@@ -5,9 +5,9 @@ use Rattle.bz_tableau.specs.Pivots.{IsPivoted}
 use Rattle.bz_tableau.specs.Tables.{Table, IsTableOf, IsTableauOf, own, factor_column, shown}
 use Rattle.bz_tableau.specs.declared.answers.LpStop.{LpStop}
 use Rattle.bz_tableau.specs.declared.programs.Lp.{Lp}
+use Rattle.bz_lex.specs.Refusals.{IsFirstStop, IsFirstRelaxedStop}
 use Rattle.bz_lex.specs.Lexicographic.{IsAbove, AreLevel, IsLeaving}
 use Rattle.bz_lex.specs.Shown.{HasPoint, HasLeastCost, IsFreeFall}
-use Rattle.bz_lex.specs.Stops.{IsTrueStop, IsTrueRelaxedStop}
 use Rattle.bz_lex.specs.TableStages.{shown_order, IsLeavingRow, IsTableStage}
 use Rattle.bz_lex.specs.declared.phase.PhaseEnd.{PhaseEnd}
 use Rattle.bz_lex.specs.declared.phase.PhaseEnd.TheVariants.{Least, Falls}
@@ -104,5 +104,5 @@ pub record IsPhaseTable (old new : Table) : Type 0 where
 
 -- why a phase stopped, in each program of which the table is the tableau
 pub record IsPhaseStop (t : Table) (stop : LpStop) : Type 0 where
-  pub is_true : (relaxed : Bool) (lp : Lp) → IsTableauOf relaxed lp t → IsTrueStop lp stop
-  pub is_relaxed : (lp : Lp) → IsTableauOf true lp t → IsTrueRelaxedStop lp stop
+  pub is_true : (relaxed : Bool) (lp : Lp) → IsTableauOf relaxed lp t → IsFirstStop lp stop
+  pub is_relaxed : (lp : Lp) → IsTableauOf true lp t → IsFirstRelaxedStop lp stop

@@ -11,7 +11,7 @@ use Rattle.bz_tableau.specs.declared.answers.LpStop.{LpStop}
 use Rattle.bz_tableau.specs.declared.answers.LpStop.TheVariants.{Wide, OutOfMemory}
 use Rattle.bz_tableau.specs.declared.answers.Vals.{Vals}
 use Rattle.bz_tableau.specs.declared.answers.WideAt.TheVariants.{Den}
-use Rattle.bz_lex.specs.Refusals.{at_number, IsRisingOrder}
+use Rattle.bz_tableau.specs.WidePlaces.{at_number, IsRisingOrder}
 
 -- ---- signs
 -- no right side is negative

@@ -2,8 +2,8 @@
 ghost use Rattle.std.specs.Prelude.{◌≡◌, ◌<◌, ◌^◌, IfOk, IfErr, IfSome};
 ghost use Rattle.bz_tableau.specs.Programs.{IsLp, lp_equations};
 ghost use Rattle.bz_tableau.specs.Tables.{IsTableauOf};
-ghost use Rattle.bz_lex.specs.Answers.{AnswersBasis};
-ghost use Rattle.bz_lex.specs.Refusals.{HasNoWidePlace, IsAnswerRefusal, LacksSigns};
+ghost use Rattle.bz_tableau.specs.Answers.{AnswersBasis};
+ghost use Rattle.bz_lex.specs.Refusals.{NamesFirstPlace, IsAnswerRefusal, LacksSigns, HasNoWidePlace};
 ghost use Rattle.bz_lex.specs.Shown.{AnswersShown};
 
 use crate::least::least_answer;
@@ -60,6 +60,7 @@ pub fn answer_at(
     ensures signs { IfOk result (λ outcome. LacksSigns relaxed lp.now tableau.now.basis outcome) }
     ensures narrow { IfOk result (λ outcome. IfSome outcome (λ _. HasNoWidePlace relaxed lp.now tableau.now.basis)) }
     ensures refused { IfErr result (λ stop. IsAnswerRefusal relaxed lp.now tableau.now.basis stop) }
+    ensures first { IfErr result (λ stop. NamesFirstPlace lp.now stop) }
 {
     let slack = first_slack(lp, relaxed);
     let rows = tableau.basis().len() as u32;

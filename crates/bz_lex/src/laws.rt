@@ -3,8 +3,8 @@ ghost use Rattle.std.specs.Prelude.{Bool, ℕ, List, ◌≡◌};
 ghost use Rattle.bz_tableau.specs.Programs.{program_of};
 ghost use Rattle.bz_tableau.specs.declared.answers.Answer.{Answer};
 ghost use Rattle.bz_tableau.specs.declared.programs.Lp.{Lp};
-ghost use Rattle.bz_lex.specs.Answers.{IsAnswer, HasAnswer, basis_of};
-ghost use Rattle.bz_lex.specs.Refusals.{HasAnswerSigns};
+ghost use Rattle.bz_tableau.specs.Answers.{IsAnswer, HasAnswer, basis_of};
+ghost use Rattle.bz_tableau.specs.WidePlaces.{HasAnswerSigns};
 
 /// The bases that have an answer, however wide its numbers, are those whose right sides and objective row have the signs
 /// of one.

@@ -1,7 +1,7 @@
 //! The basic columns before the slacks, in rising order.
 ghost use Rattle.std.specs.Prelude.{◌≡◌, ◌≢◌, ◌<◌, ◌^◌, ℕ, IfOk, MatchOption, length};
 ghost use Rattle.bz_tableau.specs.Laws.{place};
-ghost use Rattle.bz_lex.specs.Refusals.{IsRisingOrder};
+ghost use Rattle.bz_tableau.specs.WidePlaces.{IsRisingOrder};
 
 use std::alloc::{AllocError, Global};
 

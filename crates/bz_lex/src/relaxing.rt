@@ -3,8 +3,8 @@ ghost use Rattle.std.specs.Prelude.{◌≡◌, ◌<◌, ◌+◌, ℕ, true, IfOk
 ghost use Rattle.bz_tableau.specs.Laws.{place};
 ghost use Rattle.bz_tableau.specs.Programs.{IsLp};
 ghost use Rattle.bz_tableau.specs.Tables.{factor_column, IsTableauOf};
+ghost use Rattle.bz_lex.specs.Refusals.{IsFirstRelaxedStop};
 ghost use Rattle.bz_lex.specs.Shown.{HasPoint};
-ghost use Rattle.bz_lex.specs.Stops.{IsTrueRelaxedStop};
 ghost use Rattle.bz_lex.specs.Ways.{IsLeastRightTo, LeastRightTo};
 
 use crate::answering::first_slack;
@@ -60,7 +60,7 @@ fn enter_s(alloc: Global, lp: &Lp, tableau: &mut Tableau, row: u32) -> Result<()
     requires least { IsLeastRightTo (length tableau.old.basis) tableau.old row }
     ensures tableau { IfOk result (λ _. IsTableauOf true lp.now tableau.new) }
     ensures point { IfOk result (λ _. HasPoint tableau.new) }
-    ensures refused { IfErr result (λ stop. IsTrueRelaxedStop lp.now stop) }
+    ensures refused { IfErr result (λ stop. IsFirstRelaxedStop lp.now stop) }
 {
     let goal = with_column(alloc, tableau.basis(), row, lp.columns)?;
     pivot_towards(alloc, tableau, row, lp.columns, goal.as_slice())
@@ -71,7 +71,7 @@ pub fn relaxed_start(alloc: Global, lp: &Lp) -> Result<Tableau, LpStop>
     requires lp { IsLp lp.now }
     ensures tableau { IfOk result (λ t. IsTableauOf true lp.now t) }
     ensures point { IfOk result (λ t. HasPoint t) }
-    ensures refused { IfErr result (λ stop. IsTrueRelaxedStop lp.now stop) }
+    ensures refused { IfErr result (λ stop. IsFirstRelaxedStop lp.now stop) }
 {
     let mut tableau = Tableau::new(alloc, lp, true)?;
     let rows = tableau.basis().len() as u32;

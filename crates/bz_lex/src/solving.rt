@@ -2,9 +2,10 @@
 ghost use Rattle.std.specs.Prelude.{◌≡◌, IfOk, IfErr, IfSome, length, pos, ◌<◌, ◌+◌, ◌^◌, ◌<ℤ◌, true, false};
 ghost use Rattle.bz_tableau.specs.Programs.{IsLp, program_of};
 ghost use Rattle.bz_tableau.specs.Tables.{IsTableauOf};
-ghost use Rattle.bz_lex.specs.Answers.{Answers, IsAnswer, NamesLeast};
+ghost use Rattle.bz_tableau.specs.Answers.{Answers, IsAnswer, NamesLeast};
+ghost use Rattle.bz_tableau.specs.Stops.{IsTrueStop, IsTrueRelaxedStop};
+ghost use Rattle.bz_lex.specs.Refusals.{IsFirstStop, IsFirstRelaxedStop, NamesFirstPlace};
 ghost use Rattle.bz_lex.specs.Shown.{HasPoint, HasLeastCost};
-ghost use Rattle.bz_lex.specs.Stops.{IsTrueStop, IsTrueRelaxedStop};
 ghost use Rattle.bz_lex.specs.Ways.{right_side};
 
 use crate::answering::{answer_at, first_slack};
@@ -23,7 +24,7 @@ fn relaxed_least(alloc: Global, lp: &Lp) -> Result<Tableau, LpStop>
     ensures tableau { IfOk result (λ t. IsTableauOf true lp.now t) }
     ensures point { IfOk result (λ t. HasPoint t) }
     ensures least { IfOk result (λ t. HasLeastCost t) }
-    ensures refused { IfErr result (λ stop. IsTrueRelaxedStop lp.now stop) }
+    ensures refused { IfErr result (λ stop. IsFirstRelaxedStop lp.now stop) }
 {
     let mut tableau = relaxed_start(alloc, lp)?;
     match run_phase(alloc, lp, true, &mut tableau)? {
@@ -49,7 +50,7 @@ fn empty_answer(alloc: Global, lp: &Lp, relaxed: &Tableau) -> Result<Answer, LpS
     requires least { HasLeastCost relaxed.now }
     requires low { right_side relaxed.now (length relaxed.now.basis) <ℤ pos 0 }
     ensures answers { IfOk result (λ a. Answers lp.now a) }
-    ensures refused { IfErr result (λ stop. IsTrueStop lp.now stop) }
+    ensures refused { IfErr result (λ stop. IsFirstStop lp.now stop) }
 {
     let rows = relaxed.basis().len() as u32;
     let basis = Vec::from_slice(alloc, relaxed.basis())?;
@@ -66,7 +67,7 @@ fn finish(alloc: Global, lp: &Lp, mut tableau: Tableau) -> Result<Answer, LpStop
     requires tableau { IsTableauOf false lp.now tableau }
     requires point { HasPoint tableau }
     ensures answers { IfOk result (λ a. Answers lp.now a) }
-    ensures refused { IfErr result (λ stop. IsTrueStop lp.now stop) }
+    ensures refused { IfErr result (λ stop. IsFirstStop lp.now stop) }
 {
     run_phase(alloc, lp, false, &mut tableau)?;
     match answer_at(alloc, lp, false, &tableau)? {
@@ -80,7 +81,7 @@ fn slack_start(alloc: Global, lp: &Lp) -> Result<Option<Tableau>, LpStop>
     requires lp { IsLp lp.now }
     ensures tableau { IfOk result (λ start. IfSome start (λ t. IsTableauOf false lp.now t)) }
     ensures point { IfOk result (λ start. IfSome start (λ t. HasPoint t)) }
-    ensures refused { IfErr result (λ stop. IsTrueStop lp.now stop) }
+    ensures refused { IfErr result (λ stop. IsFirstStop lp.now stop) }
 {
     let tableau = Tableau::new(alloc, lp, false)?;
     let rows = tableau.basis().len() as u32;
@@ -92,11 +93,13 @@ fn slack_start(alloc: Global, lp: &Lp) -> Result<Option<Tableau>, LpStop>
 }
 
 /// What the program comes to: a point of least cost, no point, or a cost without bound, by a basis that shows it. It is
-/// refused where a pivot on the way, or a number of the answer, is wide, and by want of memory.
+/// refused where a pivot on the way, or a number of the answer, is wide, and by want of memory; a number of the answer is
+/// named by its first wide place.
 pub fn solve(alloc: Global, lp: &Lp) -> Result<Answer, LpStop>
     requires { IsLp lp.now }
     ensures answers { IfOk result (λ a. Answers lp.now a) }
     ensures refused { IfErr result (λ stop. IsTrueStop lp.now stop) }
+    ensures first { IfErr result (λ stop. NamesFirstPlace lp.now stop) }
 {
     if let Some(tableau) = slack_start(alloc, lp)? {
         return finish(alloc, lp, tableau);
@@ -110,12 +113,14 @@ pub fn solve(alloc: Global, lp: &Lp) -> Result<Answer, LpStop>
 }
 
 /// The point of the relaxed program whose last number, s, is least: there is one always. It is refused where a pivot on
-/// the way, or a number of the answer, is wide, and by want of memory.
+/// the way, or a number of the answer, is wide, and by want of memory; a number of the answer is named by its first wide
+/// place.
 pub fn relax(alloc: Global, lp: &Lp) -> Result<Answer, LpStop>
     requires { IsLp lp.now }
     ensures answers { IfOk result (λ a. IsAnswer true lp.now a) }
     ensures least { IfOk result (λ a. NamesLeast a) }
     ensures refused { IfErr result (λ stop. IsTrueRelaxedStop lp.now stop) }
+    ensures first { IfErr result (λ stop. NamesFirstPlace lp.now stop) }
 {
     let tableau = relaxed_least(alloc, lp)?;
     match answer_at(alloc, lp, true, &tableau)? {

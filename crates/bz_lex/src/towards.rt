@@ -5,8 +5,9 @@ ghost use Rattle.bz_tableau.specs.Laws.{place};
 ghost use Rattle.bz_tableau.specs.Pivots.{IsPivoted};
 ghost use Rattle.bz_tableau.specs.Programs.{IsLp, program_of};
 ghost use Rattle.bz_tableau.specs.Tables.{factor_column, shown, IsTableauOf};
+ghost use Rattle.bz_lex.specs.Refusals.{IsFirstStop};
 ghost use Rattle.bz_lex.specs.Shown.{HasPoint};
-ghost use Rattle.bz_lex.specs.Stops.{IsPointBasis, IsTrueStop};
+ghost use Rattle.bz_tableau.specs.Stops.{IsPointBasis};
 ghost use Rattle.bz_lex.specs.Ways.{IsEntryIn, HasNoEntryIn, StandsIn, Stays, IsBrought, IsWayRefusal, IsRefusedWay};
 
 use crate::order::place_of;
@@ -103,7 +104,7 @@ pub fn tableau_at(alloc: Global, lp: &Lp, goal: &[u32]) -> Result<Tableau, LpSto
     ensures tableau { IfOk result (λ t. IsTableauOf false lp.now t) }
     ensures columns { IfOk result (λ t. IsWithin (length t.basis) (place t.basis) (place goal.now)) }
     ensures point { IfOk result (λ t. HasPoint t) }
-    ensures refused { IfErr result (λ stop. IsTrueStop lp.now stop) }
+    ensures refused { IfErr result (λ stop. IsFirstStop lp.now stop) }
 {
     let mut tableau = Tableau::new(alloc, lp, false)?;
     let rows = tableau.basis().len() as u32;

@@ -3,9 +3,10 @@ ghost use Rattle.std.specs.Prelude.{◌≡◌, ◌≢◌, ◌<◌, ℕ, pos, tru
 ghost use Rattle.bz_tableau.specs.Laws.{place};
 ghost use Rattle.bz_tableau.specs.Programs.{IsLp, program_of};
 ghost use Rattle.bz_tableau.specs.Tables.{factor_column, shown, IsTableauOf};
+ghost use Rattle.bz_lex.specs.Refusals.{IsFirstStop};
 ghost use Rattle.bz_lex.specs.Renumbering.{unrelaxed};
 ghost use Rattle.bz_lex.specs.Shown.{HasPoint};
-ghost use Rattle.bz_lex.specs.Stops.{IsPointBasis, IsTrueStop};
+ghost use Rattle.bz_tableau.specs.Stops.{IsPointBasis};
 ghost use Rattle.bz_lex.specs.Ways.{right_side, IsOtherEntry, HasNoOtherEntry, IsRenumbered};
 
 use crate::answering::first_slack;
@@ -46,7 +47,7 @@ fn leave_s(alloc: Global, lp: &Lp, tableau: &mut Tableau) -> Result<(), LpStop>
     ensures tableau { IfOk result (λ _. IsTableauOf true lp.now tableau.new) }
     ensures point { IfOk result (λ _. HasPoint tableau.new) }
     ensures left { IfOk result (λ _. (i : ℕ) → i < length tableau.new.basis → place tableau.new.basis i ≢ lp.now.columns) }
-    ensures refused { IfErr result (λ stop. IsTrueStop lp.now stop) }
+    ensures refused { IfErr result (λ stop. IsFirstStop lp.now stop) }
 {
     let side = first_slack(lp, true) + tableau.basis().len() as u32;
     match place_of(tableau.basis(), lp.columns) {
@@ -85,7 +86,7 @@ fn feasible_basis(alloc: Global, lp: &Lp, mut tableau: Tableau) -> Result<Vec<u3
     requires point { HasPoint tableau }
     requires zero { right_side tableau (length tableau.basis) ≡ pos 0 }
     ensures goal { IfOk result (λ goal. IsPointBasis false (program_of lp.now) goal.items) }
-    ensures refused { IfErr result (λ stop. IsTrueStop lp.now stop) }
+    ensures refused { IfErr result (λ stop. IsFirstStop lp.now stop) }
 {
     leave_s(alloc, lp, &mut tableau)?;
     let goal = renumbered(alloc, lp.columns, tableau.basis())?;
@@ -100,7 +101,7 @@ pub fn feasible_start(alloc: Global, lp: &Lp, relaxed: Tableau) -> Result<Tablea
     requires zero { right_side relaxed (length relaxed.basis) ≡ pos 0 }
     ensures tableau { IfOk result (λ t. IsTableauOf false lp.now t) }
     ensures point { IfOk result (λ t. HasPoint t) }
-    ensures refused { IfErr result (λ stop. IsTrueStop lp.now stop) }
+    ensures refused { IfErr result (λ stop. IsFirstStop lp.now stop) }
 {
     let goal = feasible_basis(alloc, lp, relaxed)?;
     tableau_at(alloc, lp, goal.as_slice())

@@ -1,7 +1,12 @@
+pub mod Answers
 pub mod Dense
 pub mod First
 pub mod Laws
 pub mod Pivots
+pub mod Points
 pub mod Programs
 pub mod Refusals
+pub mod Stops
 pub mod Tables
+pub mod Truths
+pub mod WidePlaces

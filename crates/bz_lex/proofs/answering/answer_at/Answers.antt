@@ -1,6 +1,6 @@
 -- Each return is what the tableau's signs say.
 use Rattle.std.proofs.Common.{sym, ◌∙◌, true≢false}
-use Rattle.bz_lex.proofs.Outcomes.{outcome_answer, outcome_narrow, outcome_refused, least_outcome, ray_right, small_least, small_ray, none_without_point, none_without_cost, no_signs_without_point, no_signs_without_cost}
+use Rattle.bz_lex.proofs.Outcomes.{outcome_answer, outcome_narrow, outcome_refused, outcome_first, least_outcome, ray_right, small_least, small_ray, none_without_point, none_without_cost, no_signs_without_point, no_signs_without_cost}
 use Rattle.bz_lex.proofs.answering.answer_at.Goals as goal
 
 pub returns-then-not-has_point-clause-answer : goal.returns-then-not-has_point-clause-answer
@@ -27,6 +27,12 @@ returns-then-has_least_cost-clause-refused c =
     outcome_refused c.args.relaxed c.args.lp.now c.args.tableau.now.basis c.in_ok-outcome.outcome c.answered.result shown
     (least_outcome c.args.relaxed c.args.lp.now c.args.tableau.now c.requires.tableau c.if-not-has_point.ensures c.if-has_least_cost.ensures c.in_ok-outcome.outcome c.in_ok-outcome.ensures)
 
+pub returns-then-has_least_cost-clause-first : goal.returns-then-has_least_cost-clause-first
+returns-then-has_least_cost-clause-first c =
+    let shown = rw c.basis-then-has_least_cost.ensures at c.answered.ensures in
+    outcome_first c.args.relaxed c.args.lp.now c.args.tableau.now.basis c.in_ok-outcome.outcome c.answered.result shown
+    (least_outcome c.args.relaxed c.args.lp.now c.args.tableau.now c.requires.tableau c.if-not-has_point.ensures c.if-has_least_cost.ensures c.in_ok-outcome.outcome c.in_ok-outcome.ensures)
+
 pub returns-then-relaxed-clause-answer : goal.returns-then-relaxed-clause-answer
 returns-then-relaxed-clause-answer c = none_without_cost c.args.relaxed c.args.lp.now c.args.tableau.now c.requires.tableau c.if-has_least_cost.ensures (λ e. absurd (true≢false (sym c.if-relaxed.true ∙ e)))
 
@@ -49,6 +55,12 @@ pub returns-in_ok-outcome-in-Some-clause-refused : goal.returns-in_ok-outcome-in
 returns-in_ok-outcome-in-Some-clause-refused c =
     let shown = rw c.basis-in-Some.ensures at c.answered-in-Some.ensures in
     outcome_refused c.args.relaxed c.args.lp.now c.args.tableau.now.basis c.in_ok-outcome-in-Some.outcome c.answered-in-Some.result shown
+    (ray_right c.args.relaxed c.args.lp.now c.args.tableau.now c.requires.tableau c.if-relaxed.false c.if-not-has_point.ensures c.in-Some.column c.in-Some.ensures c.in_ok-outcome-in-Some.outcome c.in_ok-outcome-in-Some.ensures)
+
+pub returns-in_ok-outcome-in-Some-clause-first : goal.returns-in_ok-outcome-in-Some-clause-first
+returns-in_ok-outcome-in-Some-clause-first c =
+    let shown = rw c.basis-in-Some.ensures at c.answered-in-Some.ensures in
+    outcome_first c.args.relaxed c.args.lp.now c.args.tableau.now.basis c.in_ok-outcome-in-Some.outcome c.answered-in-Some.result shown
     (ray_right c.args.relaxed c.args.lp.now c.args.tableau.now c.requires.tableau c.if-relaxed.false c.if-not-has_point.ensures c.in-Some.column c.in-Some.ensures c.in_ok-outcome-in-Some.outcome c.in_ok-outcome-in-Some.ensures)
 
 pub returns-in-None-clause-answer : goal.returns-in-None-clause-answer

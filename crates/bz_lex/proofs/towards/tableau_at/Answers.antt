@@ -1,7 +1,7 @@
 -- Each turn brings one row to the goal.
 use Rattle.std.proofs.Common.{rules, ◌≡◌, ◌<◌, ℕ, false, length, ap, sym, subst, ◌∙◌, arith}
 use Rattle.bz_tableau.specs.declared.answers.LpStop.{LpStop}
-use Rattle.bz_lex.specs.Stops.{IsTrueStop}
+use Rattle.bz_lex.specs.Refusals.{IsFirstStop}
 use Rattle.bz_lex.proofs.GoalWays.{IsOnWay, way_first, way_next, way_count, way_refused, way_within, way_point}
 use Rattle.bz_lex.proofs.Results.{if_err_and}
 use Rattle.bz_lex.proofs.towards.tableau_at.Goals as goal
@@ -10,8 +10,8 @@ pub loop-row-init : goal.loop-row-init
 loop-row-init c = (way_first false c.args.lp.now c.args.goal.now c.in_ok-tableau.tableau c.in_ok-tableau.ensures.tableau c.in_ok-tableau.ensures.basis, ap length (sym c.basis.ensures))
 
 pub returns-in_err-bring-clause-refused : goal.returns-in_err-bring-clause-refused
-returns-in_err-bring-clause-refused c = if_err_and {P = λ stop. stop ≡ c.in_err-bring.field-0.0} {Q = λ stop. IsTrueStop c.args.lp.now stop} c.from_residual-in_err-bring.result c.from_residual-in_err-bring.ensures.1
-    (λ stop same. subst (λ (x : LpStop). IsTrueStop c.args.lp.now x) (sym same)
+returns-in_err-bring-clause-refused c = if_err_and {P = λ stop. stop ≡ c.in_err-bring.field-0.0} {Q = λ stop. IsFirstStop c.args.lp.now stop} c.from_residual-in_err-bring.result c.from_residual-in_err-bring.ensures.1
+    (λ stop same. subst (λ (x : LpStop). IsFirstStop c.args.lp.now x) (sym same)
     (way_refused c.loop-row.row false c.args.lp.now c.args.goal.now c.loop-row.tableau c.loop-row.invariant.0 (omega (arith, c.loop-row-test.true, c.loop-row.invariant.1)) c.requires.goal c.in_err-bring.field-0.0 c.in_err-bring.ensures.refused))
 
 pub loop-row-preserved : goal.loop-row-preserved

@@ -3,8 +3,8 @@ use Rattle.std.proofs.Common.{true, length, ℕ, ◌<◌, ◌≢◌}
 use Rattle.bz_tableau.specs.Laws.{place}
 use Rattle.bz_tableau.specs.Pivots.{IsPivoted}
 use Rattle.bz_tableau.specs.Refusals.{IsRefusal}
+use Rattle.bz_lex.specs.Refusals.{IsFirstStop}
 use Rattle.bz_lex.specs.Shown.{HasPoint}
-use Rattle.bz_lex.specs.Stops.{IsTrueStop}
 use Rattle.bz_lex.proofs.RelaxedLeaving.{s_has_entry, s_may_leave, left_point, left_away}
 use Rattle.bz_lex.proofs.Results.{if_ok_then, if_err_then}
 use Rattle.bz_lex.proofs.TruePivots.{true_way_stop, own_way}
@@ -32,7 +32,7 @@ returns-in-Some-find_other_entry-clause-left c =
 pub returns-in-Some-find_other_entry-clause-refused : goal.returns-in-Some-find_other_entry-clause-refused
 returns-in-Some-find_other_entry-clause-refused c =
     let row = rw c.basis-2.ensures at c.in-Some.ensures in
-    if_err_then {P = λ stop. IsRefusal c.args.tableau.now c.in-Some.row c.in-Some-find_other_entry.column stop} {Q = λ stop. IsTrueStop c.args.lp.now stop} c.pivot.result
+    if_err_then {P = λ stop. IsRefusal c.args.tableau.now c.in-Some.row c.in-Some-find_other_entry.column stop} {Q = λ stop. IsFirstStop c.args.lp.now stop} c.pivot.result
     (λ stop w. true_way_stop true c.args.lp.now c.args.tableau.now c.requires.tableau c.in-Some.row c.in-Some-find_other_entry.column c.args.tableau.now.basis stop
     (s_may_leave c.args.lp.now c.args.tableau.now c.requires.tableau c.requires.point c.requires.zero c.in-Some.row row.0 row.1 c.in-Some-find_other_entry.column c.in-Some-find_other_entry.ensures)
     (own_way c.args.tableau.now c.in-Some.row c.in-Some-find_other_entry.column stop w))

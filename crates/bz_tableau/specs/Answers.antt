@@ -10,7 +10,7 @@ use Rattle.bz_tableau.specs.declared.answers.Answer.{Answer}
 use Rattle.bz_tableau.specs.declared.answers.Answer.TheVariants.{Least, Empty, Ray}
 use Rattle.bz_tableau.specs.declared.answers.Vals.{Vals}
 use Rattle.bz_tableau.specs.declared.programs.Lp.{Lp}
-use Rattle.bz_lex.specs.Points.{IsPoint, MeetsRows, IsDirection, FallsFreely, IsRayColumn}
+use Rattle.bz_tableau.specs.Points.{IsPoint, MeetsRows, IsDirection, FallsFreely, IsRayColumn}
 
 -- the list is a basis of the program: a column for each row
 pub record IsBasisList (relaxed : Bool) (p : Program) (basis : List ℕ) : Type 0 where
@@ -74,10 +74,34 @@ Answers lp (Least basis z y) = IsLeast false (program_of lp) basis z y
 Answers lp (Empty basis y) = IsEmpty (program_of lp) basis y
 Answers lp (Ray basis column z d) = IsRay (program_of lp) basis column z d
 
+-- the answer is shown by a basis of the program, relaxed as said: that there is no point by one of the relaxed program, and a ray by one of the program itself
+abbrev pub IsShownBy : Bool → Lp → Answer → Type 0
+IsShownBy relaxed lp (Least basis z y) = IsLeast relaxed (program_of lp) basis z y
+IsShownBy relaxed lp (Empty basis y) = (relaxed ≡ true) × IsEmpty (program_of lp) basis y
+IsShownBy relaxed lp (Ray basis column z d) = (relaxed ≡ false) × IsRay (program_of lp) basis column z d
+
 abbrev pub basis_of : Answer → List ℕ
 basis_of (Least basis z y) = basis
 basis_of (Empty basis y) = basis
 basis_of (Ray basis column z d) = basis
+
+-- the column along which the cost falls, where the answer is a ray
+abbrev pub column_of : Answer → Option ℕ
+column_of (Least basis z y) = None
+column_of (Empty basis y) = None
+column_of (Ray basis column z d) = Some column
+
+-- whether the answer's basis is one of the relaxed program, as it is where there is no point
+abbrev pub is_of_relaxed : Answer → Bool
+is_of_relaxed (Least basis z y) = false
+is_of_relaxed (Empty basis y) = true
+is_of_relaxed (Ray basis column z d) = false
+
+-- the basis of the program, relaxed as said, gives this answer, with the named column where it is a ray
+pub record GivesAnswer (relaxed : Bool) (column : Option ℕ) (lp : Lp) (basis : List ℕ) (a : Answer) : Type 0 where
+  pub basis_is : basis_of a ≡ basis
+  pub column_is : column_of a ≡ column
+  pub answer : IsShownBy relaxed lp a
 
 -- the column of a ray is the first along which its basis shows one
 abbrev pub HasFirstColumn : Lp → Answer → Type 0

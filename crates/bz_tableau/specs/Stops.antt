@@ -9,8 +9,8 @@ use Rattle.bz_tableau.specs.declared.answers.LpStop.TheVariants.{Wide, OutOfMemo
 use Rattle.bz_tableau.specs.declared.answers.WideAt.{WideAt}
 use Rattle.bz_tableau.specs.declared.answers.WideAt.TheVariants.{Build, Pivot, Den, Fold}
 use Rattle.bz_tableau.specs.declared.programs.Lp.{Lp}
-use Rattle.bz_lex.specs.Answers.{IsBasisList}
-use Rattle.bz_lex.specs.Refusals.{NamesPlace}
+use Rattle.bz_tableau.specs.Answers.{IsBasisList}
+use Rattle.bz_tableau.specs.WidePlaces.{IsTrueDen}
 
 -- a basis of the program without a negative right side
 pub record IsPointBasis (relaxed : Bool) (p : Program) (basis : List ℕ) : Type 0 where
@@ -79,7 +79,7 @@ pub record IsTruePivot (relaxed : Bool) (p : Program) (basis goal : List ℕ) (r
 abbrev pub IsTrueWide : Lp → WideAt → Type 0
 IsTrueWide lp (Build row) = ⊥
 IsTrueWide lp (Pivot relaxed basis goal row pivot_row column) = IsTruePivot relaxed (program_of lp) basis goal row pivot_row column
-IsTrueWide lp (Den relaxed basis at) = NamesPlace relaxed lp basis relaxed basis at
+IsTrueWide lp (Den relaxed basis at) = IsTrueDen relaxed (program_of lp) basis at
 IsTrueWide lp (Fold relaxed basis column list at) = ⊥
 
 -- the place is of the relaxed program

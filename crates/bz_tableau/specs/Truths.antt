@@ -1,0 +1,32 @@
+-- What an answer says of all the points of its program, in words that know no basis.
+use Rattle.std.specs.Prelude.{ℕ, ℤ, pos, ◌*ℤ◌, ◌≤ℤ◌, ◌<ℤ◌, Bool, true, false}
+use Rattle.bz_algebra.specs.Sums.{upto}
+use Rattle.bz_algebra.specs.Tableaus.{Program, rows_of, objective_entry}
+use Rattle.bz_tableau.specs.Points.{MeetsRows}
+
+-- x / den is a point of the program, relaxed as said: each row holds, and no number is negative
+pub record IsPointOf (relaxed : Bool) (p : Program) (x : ℕ → ℤ) (den : ℤ) : Type 0 where
+  pub positive : (pos 0) <ℤ den
+  pub meets : MeetsRows (rows_of relaxed p) x den
+
+-- the cost of x; of a relaxed program it is s
+abbrev pub cost_at : Bool → Program → (ℕ → ℤ) → ℤ
+cost_at relaxed p x = upto (rows_of relaxed p).slack (λ j. objective_entry relaxed p j *ℤ x j)
+
+-- z / den is a point, and no point costs less
+pub record CostsLeast (relaxed : Bool) (p : Program) (z : ℕ → ℤ) (den : ℤ) : Type 0 where
+  pub point : IsPointOf relaxed p z den
+  pub least : (x : ℕ → ℤ) (q : ℤ) → IsPointOf relaxed p x q → (cost_at relaxed p z *ℤ q) ≤ℤ (cost_at relaxed p x *ℤ den)
+
+-- no point of the relaxed program has a lesser s than z / den, which is one
+pub record HasLeastS (p : Program) (z : ℕ → ℤ) (den : ℤ) : Type 0 where
+  pub point : IsPointOf true p z den
+  pub least : (x : ℕ → ℤ) (q : ℤ) → IsPointOf true p x q → (z p.columns *ℤ q) ≤ℤ (x p.columns *ℤ den)
+
+-- the program has no point
+abbrev pub HasNoPoint : Program → Type 0
+HasNoPoint p = (x : ℕ → ℤ) (q : ℤ) → IsPointOf false p x q → ⊥
+
+-- whatever the number, some point costs less
+abbrev pub CostsBelowAll : Program → Type 0
+CostsBelowAll p = (n : ℤ) → (x : ℕ → ℤ) × (q : ℤ) × IsPointOf false p x q × ((cost_at false p x) <ℤ (n *ℤ q))
