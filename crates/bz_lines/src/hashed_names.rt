@@ -1,5 +1,5 @@
 //! Names found by their hash.
-ghost use Rattle.std.specs.Prelude.{◌≡◌, true, false, [], IfErr, IfOk, IfSome, IfNone, not, length};
+ghost use Rattle.std.specs.Prelude.{◌≡◌, true, false, [], IfOk, IfSome, OnErr, IfNone, not, length};
 ghost use Rattle.bz_lines.specs.FieldLists.{field};
 ghost use Rattle.bz_lines.specs.NameLists.{is_among, place, with_name};
 
@@ -48,7 +48,7 @@ impl<'a> HashedNames<'a> {
         ensures place { IfOk result (λ r. r.place ≡ place self.old name.now) }
         ensures new { IfOk result (λ r. r.new ≡ not (is_among self.old name.now)) }
         ensures names { IfOk result (λ r. self.new ≡ with_name self.old name.now) }
-        ensures kept { IfErr result (λ _. self.new ≡ self.old) }
+        ensures kept { OnErr result (self.new ≡ self.old) }
     {
         let (place, new) = self.set.insert_full(name)?;
         Ok(Added { place, new })

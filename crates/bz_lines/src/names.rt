@@ -1,5 +1,5 @@
 //! Names, each once, in the order in which they first come.
-ghost use Rattle.std.specs.Prelude.{◌≡◌, true, false, [], IfErr, IfOk, IfSome, IfNone, not, length};
+ghost use Rattle.std.specs.Prelude.{◌≡◌, true, false, [], IfOk, IfSome, OnErr, IfNone, not, length};
 ghost use Rattle.bz_lines.specs.FieldLists.{field};
 ghost use Rattle.bz_lines.specs.NameLists.{is_among, place, with_name};
 
@@ -8,9 +8,9 @@ use crate::ordered_names::OrderedNames;
 use std::alloc::{AllocError, Global};
 use std::marker::Model;
 
-/// How many names are found by their hash. A model of 2,048 columns and 2,048 rows has no more; a text may have many more
-/// rows of kind N.
-const HASHED: usize = 4096;
+/// How many names are found by their hash: as many as a model keeps, 2,048 rows and the objective. A text may have many
+/// more rows of kind N.
+const HASHED: usize = 2049;
 
 /// What became of an added name.
 #[derive(Clone, Copy, Debug)]
@@ -21,7 +21,8 @@ pub struct Added {
     pub new: bool,
 }
 
-/// Names by their hash while they are few, and then by their order: so no choice of names makes look-ups slow.
+/// Names by their hash while they are few, and then by their order: so a look-up compares no more than `HASHED` names,
+/// whatever hashes they have.
 #[derive(Drop)]
 enum Table<'a> {
     Hashed(HashedNames<'a>),
@@ -72,7 +73,7 @@ impl<'a> Names<'a> {
         ensures place { IfOk result (λ r. r.place ≡ place self.old name.now) }
         ensures new { IfOk result (λ r. r.new ≡ not (is_among self.old name.now)) }
         ensures names { IfOk result (λ r. self.new ≡ with_name self.old name.now) }
-        ensures kept { IfErr result (λ _. self.new ≡ self.old) }
+        ensures kept { OnErr result (self.new ≡ self.old) }
     {
         match &mut self.table {
             Table::Ordered(names) => names.add(name),

@@ -1,8 +1,8 @@
 //! Names found by their order.
-ghost use Rattle.std.specs.Prelude.{◌≡◌, ◌++◌, ◌∷◌, [], IfErr, IfOk, OnErr, OnOk, not, length};
+ghost use Rattle.std.specs.Prelude.{◌≡◌, ◌++◌, ◌∷◌, [], IfOk, OnErr, OnOk, not, length};
 ghost use Rattle.std.specs.BTreeMap.{IsUnchanged};
 ghost use Rattle.bz_lines.specs.FieldLists.{field};
-ghost use Rattle.bz_lines.specs.NameLists.{Notes, found, is_among, place, with_name};
+ghost use Rattle.bz_lines.specs.NameLists.{Notes, is_among, place, place_among, with_name};
 
 use crate::hashed_names::HashedNames;
 use crate::names::Added;
@@ -30,7 +30,7 @@ impl<'a> Model for OrderedNames<'a> {
     ghost invariant = { λ n. HasPlaces (map (λ k. k.now) n.list.items) n.places };
 }
 
-/// Notes the place of a name that stands behind others, where it is none of them.
+/// Notes the place of a name after so many others, where it is none of them.
 #[tactic(auto, using(crate::proofs::PlaceLemmas::notes_known))]
 fn note<'a>(
     places: &mut BTreeMap<&'a [u8], usize>,
@@ -76,15 +76,15 @@ impl<'a> OrderedNames<'a> {
 
     /// The place of a name, if it is one of these.
     pub(crate) fn find(&self, name: &[u8]) -> Option<usize>
-        ensures { result ≡ found self.now name.now }
+        ensures { result ≡ place_among self.now name.now }
     {
         self.places.get(name).copied()
     }
 
-    /// Puts a name behind the others.
+    /// Puts a name after the others.
     fn push(&mut self, name: &'a [u8]) -> Result<(), AllocError>
-        ensures names { IfOk result (λ _. self.new ≡ self.old ++ name.now ∷ []) }
-        ensures kept { IfErr result (λ _. self.new ≡ self.old) }
+        ensures names { OnOk result (self.new ≡ self.old ++ name.now ∷ []) }
+        ensures kept { OnErr result (self.new ≡ self.old) }
     {
         self.list.reserve(1)?;
         note(&mut self.places, name, self.list.len())?;
@@ -98,7 +98,7 @@ impl<'a> OrderedNames<'a> {
         ensures place { IfOk result (λ r. r.place ≡ place self.old name.now) }
         ensures new { IfOk result (λ r. r.new ≡ not (is_among self.old name.now)) }
         ensures names { IfOk result (λ r. self.new ≡ with_name self.old name.now) }
-        ensures kept { IfErr result (λ _. self.new ≡ self.old) }
+        ensures kept { OnErr result (self.new ≡ self.old) }
     {
         match self.find(name) {
             Some(place) => Ok(Added { place, new: false }),
