@@ -1,5 +1,6 @@
-/* Prints names of eight bytes that a hash table of the kit's indexmap puts at one place: those whose hash has its low bits 0.
-   The hash has a fixed seed: a slice is its length, as eight bytes, and then its bytes, one by one.
+/* Prints names of eight bytes that a hash table of the kit's indexmap puts at one place: those whose hash ends in so many
+   zero bits. The hash has a fixed seed: of a slice it takes the length, as eight bytes, and then the bytes, one by one.
+   The two constants and the steps are those of the kit's core/src/hash/fold.rt.
    usage: colliding COUNT BITS */
 #include <stdint.h>
 #include <stdio.h>
@@ -44,8 +45,10 @@ static void extend(int at, uint64_t state)
 
 int main(int count, char **words)
 {
-    if (count != 3)
+    if (count != 3) {
+        fputs("usage: colliding COUNT BITS\n", stderr);
         return 2;
+    }
     left = atol(words[1]);
     mask = (1u << atoi(words[2])) - 1;
     extend(0, folded(SEED ^ LENGTH, MULTIPLIER ^ 16));
