@@ -1,12 +1,12 @@
 -- Three programs by hand, one for each answer, so that the definitions of answers are seen to say what they should.
-use Rattle.std.specs.Prelude.{ℕ, zero, suc, ◌+◌, ◌<◌, ◌≤◌, ◌≡◌, ◌≢◌, ℤ, pos, negsuc, ◌+ℤ◌, ◌*ℤ◌, ◌≤ℤ◌, ◌<ℤ◌, List, [], ◌∷◌, unsigned_abs, true, false}
+use Rattle.std.specs.Prelude.{ℕ, zero, suc, ◌+◌, ◌<◌, ◌≤◌, ◌≡◌, ◌≢◌, ℤ, pos, negsuc, ◌+ℤ◌, ◌*ℤ◌, ◌≤ℤ◌, [], ◌∷◌, unsigned_abs, true, false}
 use Rattle.std.specs.Int.{◌∣◌}
-use Rattle.std.proofs.Common.{refl, sym, subst, arith}
+use Rattle.std.proofs.Common.{refl, subst, arith}
 use Rattle.std.proofs.Math.Nat.{eq-one_of_dvd-one, one-dvd}
 use Rattle.std.proofs.lemmas.Nat.Gcd.{dvd_refl}
 use Rattle.std.proofs.lemmas.Int.{ints}
 use Rattle.bz_algebra.specs.Sums.{upto}
-use Rattle.bz_algebra.specs.Tableaus.{Program, Equations, IsCombination, IsRow, IsTableau, rows_of, side, row_entry, objective_entry}
+use Rattle.bz_algebra.specs.Tableaus.{Program, Equations, IsRow, IsTableau, rows_of, side, row_entry, objective_entry}
 use Rattle.bz_algebra.proofs.Uniqueness.{row_unique, tableau_basis}
 use Rattle.bz_tableau.specs.Answers.{IsLeast, IsEmpty, IsRay}
 use Rattle.bz_tableau.specs.Dense.{entry}
