@@ -4,7 +4,7 @@ use Rattle.std.specs.Int.{w128}
 use Rattle.std.specs.Int.RustNames.{unsigned_abs}
 use Rattle.std.proofs.Math.ListN.{drop_of_length-le}
 use Rattle.bz_num.proofs.Reduces.{row_gcd-start, row_gcd-one, row_gcd-more, row_gcd-side, size-gcd_zero, narrow-at}
-use Rattle.bz_num.proofs.reduce.common_divisor.Goals as goal
+use Rattle.bz_num.proofs.reduce.row_divisor.Goals as goal
 
 pub loop-entry-init : goal.loop-entry-init
 loop-entry-init c =

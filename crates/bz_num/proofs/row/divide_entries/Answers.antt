@@ -4,7 +4,7 @@ use Rattle.std.specs.Int.{w128, ◌∣◌}
 use Rattle.std.specs.Int.RustNames.{unsigned_abs, int_div}
 use Rattle.bz_num.proofs.Divisors.{divided_z, quotient_fits}
 use Rattle.bz_num.proofs.Reduces.{times_first-none, times_first-all, times_first-set, divides-at}
-use Rattle.bz_num.proofs.row.divide_all.Goals as goal
+use Rattle.bz_num.proofs.row.divide_entries.Goals as goal
 
 pub loop-entry-init : goal.loop-entry-init
 loop-entry-init c = record { whole = sym (times_first-none _ c.args.entries.now) }

@@ -2,7 +2,7 @@
 use Rattle.std.proofs.Common.{ℕ, drop, pos, ◌≤ℤ◌}
 use Rattle.bz_algebra.specs.Numbers.{IsNarrow}
 use Rattle.bz_num.specs.Primitive.{IsRowGcd}
-use Rattle.bz_num.proofs.reduce.common_divisor.Given as goal
+use Rattle.bz_num.proofs.reduce.row_divisor.Given as goal
 
 abbrev pub invariant-loop-entry : goal.invariant-loop-entry
 invariant-loop-entry l = record {

@@ -2,8 +2,8 @@
 use Rattle.std.proofs.Common.{pos, ◌≤ℤ◌}
 use Rattle.std.specs.Int.RustNames.{unsigned_abs}
 use Rattle.bz_algebra.specs.Numbers.{IsNarrow}
-use Rattle.bz_tableau.proofs.Reductions.{IsDivisorTo}
-use Rattle.bz_tableau.proofs.reducing.common_divisor.Given as goal
+use Rattle.bz_num.proofs.DenseRows.{IsDivisorTo}
+use Rattle.bz_num.proofs.divisor.common_divisor.Given as goal
 
 abbrev pub invariant-loop-number : goal.invariant-loop-number
 invariant-loop-number l = record {

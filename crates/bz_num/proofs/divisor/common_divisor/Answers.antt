@@ -2,8 +2,8 @@
 use Rattle.std.proofs.Common.{◌≡◌, rules, arith, subst, refl, FitsSigned, to_z, to_z-of_z, get_or, ℤ, pos}
 use Rattle.std.specs.Int.{w128}
 use Rattle.std.specs.Int.RustNames.{unsigned_abs}
-use Rattle.bz_tableau.proofs.Reductions.{IsDivisorTo, divisor-more, divisor-one}
-use Rattle.bz_tableau.proofs.reducing.common_divisor.Goals as goal
+use Rattle.bz_num.proofs.DenseRows.{IsDivisorTo, divisor-more, divisor-one}
+use Rattle.bz_num.proofs.divisor.common_divisor.Goals as goal
 
 pub returns-then-divisor-eq1-clause-divisor : goal.returns-then-divisor-eq1-clause-divisor
 returns-then-divisor-eq1-clause-divisor c =
