@@ -26,7 +26,7 @@ pub use narrow::{narrow_difference, narrow_negation, narrow_product, narrow_sum}
 pub use products::{Folding, WideSum, fold};
 pub use reduce::primitive;
 pub use row::SparseRow;
-pub use sums::{Numbers, sum_at};
+pub use sums::{Numbers, row_sum, sum_at};
 
 #[cfg(test)]
 mod tests;
