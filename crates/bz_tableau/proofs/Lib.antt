@@ -2,7 +2,6 @@ pub mod Basics
 pub mod Clearing
 pub mod FirstRows
 pub mod OneObjective
-pub mod Quotients
 pub mod Reductions
 pub mod RowsOfBasis
 pub mod Turned
