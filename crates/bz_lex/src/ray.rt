@@ -8,8 +8,8 @@ ghost use Rattle.bz_lex.specs.Shown.{own_entry, IsOrderOf, IsShownBasis, IsNarro
 use crate::multiples::common_multiple;
 use crate::order::rising_order;
 use crate::values::values;
-use bz_num::Items;
-use bz_tableau::{Answer, Tableau, Vals, common_divisor, divide_all};
+use bz_num::{Items, common_divisor, divide_all};
+use bz_tableau::{Answer, Tableau, Vals};
 use std::alloc::{AllocError, Global};
 
 // Divides the numbers by their greatest common divisor.

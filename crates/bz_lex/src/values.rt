@@ -7,8 +7,8 @@ ghost use Rattle.bz_tableau.specs.Tables.{factor_column, shown};
 ghost use Rattle.bz_lex.specs.Shown.{IsOrderOf, own_entry, IsMultipleTo, IsOver, IsWideOver, AreValuesTo, IsFirstWideOver, AreMultipliersShown};
 
 use crate::multiples::own_number;
-use bz_num::narrow_product;
-use bz_tableau::{Tableau, quotient};
+use bz_num::{exact_quotient, narrow_product};
+use bz_tableau::Tableau;
 use std::alloc::{AllocError, Global};
 
 // The number over the entry, with the denominator den; None where it is wide.
@@ -19,7 +19,7 @@ fn value_over(den: i128, entry: i128, number: i128) -> Option<i128>
     requires divides { unsigned_abs entry ∣ unsigned_abs den }
     ensures { MatchOption result (IsWideOver den entry number) (λ value. IsOver den entry number value) }
 {
-    narrow_product(number, quotient(den, entry))
+    narrow_product(number, exact_quotient(den, entry))
 }
 
 /// The values over den of what the rows of the basic columns have in a column, each at its basic column and 0 elsewhere;

@@ -3,7 +3,6 @@ pub mod Clearing
 pub mod FirstRows
 pub mod GivenAnswers
 pub mod OneObjective
-pub mod Quotients
 pub mod Reductions
 pub mod RowsOfBasis
 pub mod TrueAnswers
