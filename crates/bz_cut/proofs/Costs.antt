@@ -1,12 +1,8 @@
 -- The inner cost of a part, and the width of a part.
-use Rattle.std.proofs.Common.{◌≡◌, refl, sym, subst, ℕ, suc, ◌<◌, ◌≤◌, ◌^◌, Bool, true, false, cond, List, [], ◌∷◌, length, arith, ℤ, pos, ◌+ℤ◌, nat_eq, neg_ℤ, inl, inr}
+use Rattle.std.proofs.Common.{◌≡◌, refl, sym, subst, ℕ, suc, ◌<◌, ◌≤◌, ◌^◌, Bool, true, false, cond, List, [], ◌∷◌, length, arith, ℤ, pos, ◌+ℤ◌, nat_eq, neg_ℤ}
 use Rattle.std.proofs.lemmas.Int.{ints}
-use Rattle.std.proofs.lemmas.Bool.{cases_eq}
 use Rattle.std.proofs.lemmas.List.Sums.{count_by-le-length}
-use Rattle.bz_algebra.specs.Numbers.{IsNarrow}
 use Rattle.bz_algebra.specs.Sums.{AllBelow, coef}
-use Rattle.bz_num.specs.Row.{IsSparseFrom}
-use Rattle.bz_num.proofs.Coefs.{coef-first, coef-rest}
 use Rattle.bz_model.specs.Parting.{column_at, columns_of, width_of, inner_cost, negated, terms_in}
 use Rattle.bz_model.specs.Splits.{Decomposition, IsSplit}
 use Rattle.bz_model.proofs.PartSums.{coef_terms_in, negated_within}
@@ -17,14 +13,6 @@ pub width_small : (d : Decomposition) (b : ℕ) → IsSplit d → length (column
 width_small d b s =
     let most : width_of d.part b ≤ length d.part = count_by-le-length (λ c. nat_eq c b) d.part in
     rw (length-columns_of d.part b) (omega (arith, s.partition.numbers, s.few))
-
--- the number at each column of a sparse row is narrow
-pub coef-narrow : (low : ℕ) (es : List (ℕ × ℤ)) (j : ℕ) → IsSparseFrom low es → IsNarrow (coef es j)
-coef-narrow low [] j h = omega arith
-coef-narrow low (e ∷ es) j h = elim (cases_eq e.0 j) [
-  | inl same ↦ let P : ℕ → Type 0 = λ k. IsNarrow (coef (e ∷ es) k) in subst P same (rw (coef-first low e es h) h.0.narrow)
-  | inr other ↦ rw (coef-rest j e es other) (coef-narrow (suc e.0) es j h.1)
-]
 
 coef_negated-step : (b : Bool) (v r : ℤ) → cond b (neg_ℤ v) (pos 0) +ℤ neg_ℤ r ≡ neg_ℤ (cond b v (pos 0) +ℤ r)
 coef_negated-step true v r = omega (arith, ints)

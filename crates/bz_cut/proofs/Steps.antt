@@ -7,18 +7,10 @@ use Rattle.bz_model.specs.declared.Ineq.{Ineq}
 use Rattle.bz_model.proofs.Sparse.{left_at, none_left}
 use Rattle.bz_cut.specs.Rows.{own_at, master_at, rhs_at, AreMultipliers}
 
--- the pairs of what is left of a row
-pub pairs_next : (es : List (ℕ × ℤ)) (f : ℕ → ℤ) (i : ℕ) (d : ℕ × ℤ) → i < length es → pairs_at (drop i es) f ≡ ((get_or es i d).1, f (get_or es i d).0) ∷ pairs_at (drop (i + 1) es) f
-pairs_next es f i d l = ap (λ (xs : List (ℕ × ℤ)). pairs_at xs f) (left_at es i d l)
-
-pub pairs_none : (es : List (ℕ × ℤ)) (f : ℕ → ℤ) (i : ℕ) → length es ≤ i → pairs_at (drop i es) f ≡ []
-pairs_none es f i l = ap (λ (xs : List (ℕ × ℤ)). pairs_at xs f) (none_left es i l)
-
--- a multiplier's place is in the list
-pub multiplier_at : (n : ℕ) (es : List (ℕ × ℤ)) (i : ℕ) (d : ℕ × ℤ) → AreMultipliers n es → i < length es → (get_or es i d).0 < n
-multiplier_at n [] i d h l = absurd (omega arith)
-multiplier_at n (e ∷ es) zero d h l = h.0.0
-multiplier_at n (e ∷ es) (suc i) d h l = multiplier_at n es i d h.1 (omega arith)
+-- the places of multipliers are in the list
+pub multipliers_below : (n : ℕ) (es : List (ℕ × ℤ)) → AreMultipliers n es → AllBelow n es
+multipliers_below n [] h = tt
+multipliers_below n (e ∷ es) h = (h.0.0, multipliers_below n es h.1)
 
 -- an inequality of a list by its place
 pub own_at-is : (rows : List Ineq) (n : ℕ) (d : Ineq) → n < length rows → (get_or rows n d).own ≡ own_at rows n

@@ -9,6 +9,7 @@ mod judging;
 mod laws;
 mod lists;
 mod records;
+mod sharing;
 mod sums;
 
 pub use cuts::{fits_and_valid, judge_cut};
@@ -20,7 +21,7 @@ pub use judging::{
 pub use laws::{cut_faults_are_unique, cut_tests_tell};
 pub use lists::{all_below, are_multipliers, inner_cost_at, inner_number, width};
 pub use records::Cut;
-pub use sums::{Terms, column_sum, rhs_sum, row_sum};
+pub use sums::{Terms, column_sum, rhs_sum};
 
 #[cfg(test)]
 mod tests;

@@ -3,7 +3,6 @@ ghost use Rattle.std.specs.Prelude.{◌≡◌, ◌↔◌, ◌<◌, ◌≤◌, po
 ghost use Rattle.std.proofs.Math.IntN.{neg_ℤ};
 ghost use Rattle.bz_algebra.specs.Numbers.{IsNarrow};
 ghost use Rattle.bz_algebra.specs.Sums.{AllBelow, coef};
-ghost use Rattle.bz_num.specs.Row.{IsSparse};
 ghost use Rattle.bz_model.specs.Parting.{blocks_of, inner_cost, terms_in, width_of};
 ghost use Rattle.bz_cut.specs.Rows.{AreMultipliers};
 
@@ -65,7 +64,6 @@ pub fn inner_number(maximise: bool, number: i128) -> i128
 
 /// The number of a column in the cost that is minimised.
 fn column_cost(model: &Model, column: u32) -> i128
-    requires { IsSparse model.now.cost }
     ensures value { result ≡ coef (inner_cost model.now) column }
     ensures narrow { IsNarrow result }
 {

@@ -1,5 +1,9 @@
 //! The record of a cut.
-use bz_num::SparseRow;
+ghost use Rattle.std.specs.Prelude.{◌≡◌, IfOk};
+ghost use Rattle.bz_algebra.specs.Numbers.{IsNarrow};
+
+use bz_num::{OutOfMemory, SparseRow};
+use std::alloc::Global;
 
 /// The cut `alpha x - p0 eta <= beta` over the master's positions and the eta of one block, with the multipliers that
 /// it comes from: the mu-sum of the block's inequalities is `gcd` times as large.
@@ -17,4 +21,23 @@ pub struct Cut {
     pub p0: i128,
     /// The right side.
     pub beta: i128,
+    pub ghost gcd_narrow: { IsNarrow gcd },
+    pub ghost p0_narrow: { IsNarrow p0 },
+    pub ghost beta_narrow: { IsNarrow beta },
+}
+
+impl Cut {
+    /// The same cut.
+    pub fn copy(&self, alloc: Global) -> Result<Self, OutOfMemory>
+        ensures { IfOk result (λ copy. copy ≡ self.now) }
+    {
+        Ok(Cut {
+            block: self.block,
+            mu: self.mu.copy(alloc)?,
+            gcd: self.gcd,
+            alpha: self.alpha.copy(alloc)?,
+            p0: self.p0,
+            beta: self.beta,
+        })
+    }
 }

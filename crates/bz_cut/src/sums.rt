@@ -1,13 +1,12 @@
-//! Sums of products, in their order.
-ghost use Rattle.std.specs.Prelude.{◌≡◌, ◌<◌, length};
-ghost use Rattle.bz_algebra.specs.Sums.{AllBelow, coef};
+//! The numbers of inequalities, by their places.
+ghost use Rattle.std.specs.Prelude.{◌≡◌, ◌<◌, ℕ, ℤ, length};
+ghost use Rattle.bz_algebra.specs.Sums.{coef};
 ghost use Rattle.bz_num.specs.Fold.{fold_of, pairs_at};
-ghost use Rattle.bz_model.specs.Points.{coordinate};
 ghost use Rattle.bz_cut.specs.Rows.{AreMultipliers, rhs_at};
 ghost use Rattle.bz_cut.specs.Sums.{terms_at};
 
 use bz_model::Ineq;
-use bz_num::{Folding, SparseRow, WideSum};
+use bz_num::{Numbers, SparseRow, WideSum, sum_at};
 
 /// Which terms of an inequality.
 #[derive(Clone, Copy, Debug, PartialEq, Eq)]
@@ -18,19 +17,45 @@ pub enum Terms {
     Master,
 }
 
-/// The number at a position of inequality `n`. It takes no memory.
-fn number_at(rows: &[Ineq], n: u32, terms: Terms, position: u32) -> i128
-    requires { n < length rows.now }
-    ensures { result ≡ coef (terms_at terms rows.now n) position }
-{
-    let row = &rows[n as usize];
-    match terms {
-        Terms::Own => row.own.at(position),
-        Terms::Master => row.master.at(position),
+/// The numbers of inequalities at a position.
+#[derive(Clone, Copy)]
+struct AtPosition<'a> {
+    rows: &'a [Ineq],
+    terms: Terms,
+    position: u32,
+}
+
+impl Numbers for AtPosition<'_> {
+    ghost count = { λ n. length n.rows.now };
+
+    ghost at = { λ n k. coef (terms_at n.terms n.rows.now k) n.position };
+
+    fn number(&self, place: u32) -> i128 {
+        let row = &self.rows[place as usize];
+        match self.terms {
+            Terms::Own => row.own.at(self.position),
+            Terms::Master => row.master.at(self.position),
+        }
     }
 }
 
-/// The sum at a position of the inequalities, each times its multiplier, or its first wide place. It takes no memory.
+/// The right sides of inequalities.
+#[derive(Clone, Copy)]
+struct RightSides<'a> {
+    rows: &'a [Ineq],
+}
+
+impl Numbers for RightSides<'_> {
+    ghost count = { λ n. length n.rows.now };
+
+    ghost at = { λ n. rhs_at n.rows.now };
+
+    fn number(&self, place: u32) -> i128 {
+        self.rows[place as usize].rhs
+    }
+}
+
+/// The sum at a position of the inequalities, each times its multiplier, or its first wide place.
 pub fn column_sum(
     multipliers: &SparseRow,
     rows: &[Ineq],
@@ -40,42 +65,18 @@ pub fn column_sum(
     requires { AreMultipliers (length rows.now) multipliers.now }
     ensures { result ≡ fold_of (pairs_at multipliers.now (λ n. coef (terms_at terms rows.now n) position)) }
 {
-    let mut folding = Folding::new();
-    for entry in multipliers.as_slice() {
-        folding.push(entry.1, number_at(rows, entry.0, terms, position))?;
-    }
-    Ok(folding.sum())
+    let numbers = AtPosition {
+        rows,
+        terms,
+        position,
+    };
+    sum_at(multipliers, &numbers)
 }
 
-/// The right side of inequality `n`.
-fn side_at(rows: &[Ineq], n: u32) -> i128
-    requires { n < length rows.now }
-    ensures { result ≡ rhs_at rows.now n }
-{
-    rows[n as usize].rhs
-}
-
-/// The sum of the right sides of the inequalities, each times its multiplier, or its first wide place. It takes no
-/// memory.
+/// The sum of the right sides of the inequalities, each times its multiplier, or its first wide place.
 pub fn rhs_sum(multipliers: &SparseRow, rows: &[Ineq]) -> Result<i128, WideSum>
     requires { AreMultipliers (length rows.now) multipliers.now }
     ensures { result ≡ fold_of (pairs_at multipliers.now (rhs_at rows.now)) }
 {
-    let mut folding = Folding::new();
-    for entry in multipliers.as_slice() {
-        folding.push(entry.1, side_at(rows, entry.0))?;
-    }
-    Ok(folding.sum())
-}
-
-/// The sum of a row at a point, or its first wide place. It takes no memory.
-pub fn row_sum(row: &SparseRow, point: &[i128]) -> Result<i128, WideSum>
-    requires { AllBelow (length point.now) row.now }
-    ensures { result ≡ fold_of (pairs_at row.now (coordinate point.now)) }
-{
-    let mut folding = Folding::new();
-    for entry in row.as_slice() {
-        folding.push(entry.1, point[entry.0 as usize])?;
-    }
-    Ok(folding.sum())
+    sum_at(multipliers, &RightSides { rows })
 }

@@ -1,5 +1,5 @@
 -- On the way to a goal: row by row a column of the goal takes the place of one that isn't.
-use Rattle.std.specs.Prelude.{ℕ, ◌+◌, ◌<◌, ◌≤◌, ◌≡◌, ◌≢◌, ℤ, pos, ◌≤ℤ◌, Bool, List, length}
+use Rattle.std.specs.Prelude.{ℕ, ◌+◌, ◌<◌, ◌≤◌, ◌≡◌, ◌≢◌, ℤ, pos, ◌≤ℤ◌, Bool, false, List, length}
 use Rattle.std.specs.List.{range_with_len}
 use Rattle.std.proofs.Common.{ap, sym, subst, ◌∙◌, arith, inl, inr}
 use Rattle.std.proofs.lemmas.Bool.{cases_eq}
@@ -15,9 +15,10 @@ use Rattle.bz_tableau.specs.Programs.{program_of, lp_equations}
 use Rattle.bz_tableau.specs.Tables.{Table, IsTableauOf, shown, factor_column}
 use Rattle.bz_tableau.proofs.RowsOfBasis.{rows_of_basis}
 use Rattle.bz_lex.specs.Refusals.{IsFirstStop}
-use Rattle.bz_lex.specs.Shown.{HasPoint}
+use Rattle.bz_lex.specs.Shown.{HasPoint, HasSlackPoint}
 use Rattle.bz_tableau.specs.Stops.{IsPointBasis, IsOnTheWay}
 use Rattle.bz_lex.specs.Ways.{IsEntryIn, StandsIn, Stays, IsBrought, IsRefusedWay}
+use Rattle.bz_lex.proofs.RelaxedStarts.{slack_rows}
 use Rattle.bz_lex.proofs.ShownBases.{few_rows, has_point}
 use Rattle.bz_lex.proofs.TowardsTables.{slack_places, pivoted_count, pivoted_place, table_exchange, pivoted_within}
 use Rattle.bz_lex.proofs.TruePivots.{MayPivot, true_way_stop}
@@ -42,6 +43,19 @@ within_point relaxed lp t goal h g within = has_point relaxed lp t h right
         subst (λ (z : ℤ). (pos 0) ≤ℤ z)
         (sym (column_row (rows_of relaxed (program_of lp)) (place t.basis) (place goal) (shown t) row.0 k f.0 (few_rows relaxed lp t h) among b row.1 f.2 (side (rows_of relaxed (program_of lp))) (omega arith)))
         (g.right_sides f.0 row.0 f.1 row.1)
+
+-- the tableau of the slacks has a point where no right side of the program is negative
+pub slack_point : (lp : Lp) (t : Table) → IsTableauOf false lp t → t.basis ≡ range_with_len (lp_equations false lp).slack (length lp.rows) → HasSlackPoint lp → HasPoint t
+slack_point lp t h e p = has_point false lp t h (λ k b. subst (λ (z : ℤ). (pos 0) ≤ℤ z) (sym (slack_rows few (place t.basis) (shown t) (few_rows false lp t h) slack k b).right) (p k b))
+  where
+    few : Equations
+    few = rows_of false (program_of lp)
+
+    rows : HasRowsOfBasis false lp t
+    rows = rows_of_basis false lp t h
+
+    slack : (i : ℕ) → i < length lp.rows → place t.basis i ≡ (rows_of false (program_of lp)).slack + i
+    slack i b = slack_places false lp t h e i (omega (arith, b, rows.count)) ∙ ap (λ (n : ℕ). n + i) rows.slack
 
 -- the first n rows have columns of the goal, and the others their slacks
 pub record IsOnWay (n : ℕ) (relaxed : Bool) (lp : Lp) (goal : List ℕ) (t : Table) : Type 0 where
@@ -92,7 +106,7 @@ module _ (n : ℕ) (relaxed : Bool) (lp : Lp) (goal : List ℕ) (t : Table) (h :
 
   pub way_next : (new : Table) → IsBrought t n goal new → IsOnWay (n + 1) relaxed lp goal new
   way_next new (inl s) = subst (λ (u : Table). IsOnWay (n + 1) relaxed lp goal u) (sym s.0) (kept (stays s.1))
-  way_next new (inr f) = pivoted new f.0 f.1 f.2
+  way_next new (inr f) = pivoted new f.0 f.1.enters f.2
 
   -- the rows are as many
   pub way_count : (new : Table) → IsBrought t n goal new → length new.basis ≡ length t.basis
@@ -115,7 +129,7 @@ module _ (n : ℕ) (relaxed : Bool) (lp : Lp) (goal : List ℕ) (t : Table) (h :
   }
 
   pub way_refused : (stop : LpStop) → IsRefusedWay t n goal stop → IsFirstStop lp stop
-  way_refused stop w = true_way_stop relaxed lp t h.tableau n w.column goal stop (may_pivot w.column w.enters) w.refusal
+  way_refused stop w = true_way_stop relaxed lp t h.tableau n w.column goal stop (may_pivot w.column w.takes.enters) w.refusal
 
 -- at the end the columns are those of the goal
 pub way_within : (relaxed : Bool) (lp : Lp) (goal : List ℕ) (t : Table) → IsOnWay (length t.basis) relaxed lp goal t → IsPointBasis relaxed (program_of lp) goal → IsWithin (length t.basis) (place t.basis) (place goal)

@@ -6,11 +6,11 @@ use Rattle.std.proofs.Math.Nat.{eq-zero_of_zero-dvd}
 use Rattle.std.proofs.lemmas.Int.{ints}
 use Rattle.bz_algebra.proofs.Bounded.{by_order}
 use Rattle.bz_algebra.proofs.Ring.{*ℤ_assoc, mul_neg, one_mul, positive-ne, le_antisym}
+use Rattle.bz_num.proofs.DenseRows.{quotients_primitive}
+use Rattle.bz_num.proofs.Quotients.{zero_from_size}
 use Rattle.bz_tableau.specs.Dense.{entry, IsDivisorOf, IsDivided}
 use Rattle.bz_tableau.specs.Laws.{place}
 use Rattle.bz_tableau.specs.Tables.{Table, shown, factor_column}
-use Rattle.bz_tableau.proofs.Quotients.{zero_from_size}
-use Rattle.bz_tableau.proofs.Reductions.{quotients_primitive}
 use Rattle.bz_tableau.specs.WidePlaces.{at_number}
 use Rattle.bz_lex.specs.Shown.{IsOrderOf, IsShownBasis, IsShownOrder, own_entry, IsOver, IsWideOver, AreValuesTo, IsFirstWideOver, IsNarrowLeast, IsPrimitivePart, IsShownDirection, IsShownMove, GoesWideAtRay}
 use Rattle.bz_lex.proofs.BasicValues.{not_both}

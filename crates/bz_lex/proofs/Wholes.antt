@@ -9,7 +9,7 @@ use Rattle.bz_algebra.specs.Tableaus.{Equations, side, IsCombination, IsTableau}
 use Rattle.bz_algebra.proofs.Bounded.{by_lt, below_suc, all_or_some, choose}
 use Rattle.bz_algebra.proofs.Programs.{own, own_is, own_row}
 use Rattle.bz_algebra.proofs.Ring.{*ℤ_assoc, mul_add, mul_sub, mul_left, mul_right, mul_zero, zero_mul, one_mul, add_zero, zero_add, cancel_left, mul_positive, positive-ne}
-use Rattle.bz_algebra.proofs.SumLemmas.{upto_same, upto_add, upto_scale, upto_scale_right, upto_rows, upto_split, upto_only}
+use Rattle.bz_algebra.proofs.SumLemmas.{upto_same, upto_add, upto_scale, upto_scale_right, upto_rows, upto_swap, upto_split, upto_only}
 use Rattle.bz_tableau.proofs.Basics.{made_of_rows}
 use Rattle.bz_tableau.specs.Points.{IsOutside, terms}
 

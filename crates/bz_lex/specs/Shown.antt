@@ -4,6 +4,7 @@ use Rattle.std.specs.Int.{◌∣◌}
 use Rattle.bz_algebra.specs.Numbers.{IsNarrow, IsWide}
 use Rattle.bz_tableau.specs.Dense.{entry, DividesRow, IsDivided}
 use Rattle.bz_tableau.specs.Laws.{place}
+use Rattle.bz_tableau.specs.Programs.{rhs_of}
 use Rattle.bz_tableau.specs.Tables.{Table, factor_column, shown, number}
 use Rattle.bz_tableau.specs.declared.answers.Answer.{Answer}
 use Rattle.bz_tableau.specs.declared.answers.Answer.TheVariants.{Least, Empty, Ray}
@@ -11,12 +12,17 @@ use Rattle.bz_tableau.specs.declared.answers.LpStop.{LpStop}
 use Rattle.bz_tableau.specs.declared.answers.LpStop.TheVariants.{Wide, OutOfMemory}
 use Rattle.bz_tableau.specs.declared.answers.Vals.{Vals}
 use Rattle.bz_tableau.specs.declared.answers.WideAt.TheVariants.{Den}
+use Rattle.bz_tableau.specs.declared.programs.Lp.{Lp}
 use Rattle.bz_tableau.specs.WidePlaces.{at_number, IsRisingOrder}
 
 -- ---- signs
 -- no right side is negative
 abbrev pub HasPoint : Table → Type 0
 HasPoint t = (i : ℕ) → i < length t.basis → (pos 0) ≤ℤ (shown t i (factor_column t))
+
+-- no right side of the program is negative, so that the slacks' basis has a point
+abbrev pub HasSlackPoint : Lp → Type 0
+HasSlackPoint lp = (i : ℕ) → i < length lp.rows → (pos 0) ≤ℤ (rhs_of lp.rows i)
 
 -- no number of the objective row is negative
 abbrev pub HasLeastCost : Table → Type 0

@@ -44,9 +44,14 @@ StandsIn goal column = (k : ℕ) × (k < length goal) × (place goal k ≡ colum
 abbrev pub Stays : Table → ℕ → List ℕ → Type 0
 Stays t r goal = StandsIn goal (place t.basis r) ⊎ HasNoEntryIn t r goal
 
--- new is the table itself, where its row stays, or the table after a pivot in the row on a column of the goal
+-- the column takes the row's place: the row's own column isn't in the goal, and this one is, with an entry in the row
+pub record TakesPlace (t : Table) (r : ℕ) (goal : List ℕ) (column : ℕ) : Type 0 where
+  pub away : StandsIn goal (place t.basis r) → ⊥
+  pub enters : IsEntryIn t r goal column
+
+-- new is the table itself, where its row stays, or the table after a pivot in the row on a column that takes its place
 abbrev pub IsBrought : Table → ℕ → List ℕ → Table → Type 0
-IsBrought t r goal new = ((new ≡ t) × Stays t r goal) ⊎ ((column : ℕ) × IsEntryIn t r goal column × IsPivoted t r column new)
+IsBrought t r goal new = ((new ≡ t) × Stays t r goal) ⊎ ((column : ℕ) × TakesPlace t r goal column × IsPivoted t r column new)
 
 -- ---- refusals that name a goal
 -- a refusal names the pivot and its first wide row, on the way to the goal
@@ -72,7 +77,7 @@ IsWayRefusal t r e goal OutOfMemory = Unit {0}
 -- why the row was not brought to the goal
 pub record IsRefusedWay (t : Table) (r : ℕ) (goal : List ℕ) (stop : LpStop) : Type 0 where
   pub column : ℕ
-  pub enters : IsEntryIn t r goal column
+  pub takes : TakesPlace t r goal column
   pub refusal : IsWayRefusal t r column goal stop
 
 -- ---- out of a column

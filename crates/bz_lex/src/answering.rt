@@ -1,6 +1,6 @@
 //! The answer of a basis, read from its tableau.
-ghost use Rattle.std.specs.Prelude.{◌≡◌, ◌<◌, ◌^◌, IfOk, IfErr, IfSome};
-ghost use Rattle.bz_tableau.specs.Programs.{IsLp, lp_equations};
+ghost use Rattle.std.specs.Prelude.{◌<◌, ◌^◌, IfOk, IfErr, IfSome};
+ghost use Rattle.bz_tableau.specs.Programs.{IsLp};
 ghost use Rattle.bz_tableau.specs.Tables.{IsTableauOf};
 ghost use Rattle.bz_tableau.specs.Answers.{AnswersBasis};
 ghost use Rattle.bz_lex.specs.Refusals.{NamesFirstPlace, IsAnswerRefusal, LacksSigns, HasNoWidePlace};
@@ -12,14 +12,6 @@ use crate::signs::{first_fall, has_least_cost, has_point};
 use bz_num::Items;
 use bz_tableau::{Answer, Lp, LpStop, Tableau, WideAt};
 use std::alloc::{AllocError, Global};
-
-/// How many columns stand before the slacks.
-pub fn first_slack(lp: &Lp, relaxed: bool) -> u32
-    requires { IsLp lp.now }
-    ensures { result ≡ (lp_equations relaxed lp.now).slack }
-{
-    if relaxed { lp.columns + 1 } else { lp.columns }
-}
 
 // The answer, or the refusal that names the place.
 fn answered(
@@ -62,21 +54,19 @@ pub fn answer_at(
     ensures refused { IfErr result (λ stop. IsAnswerRefusal relaxed lp.now tableau.now.basis stop) }
     ensures first { IfErr result (λ stop. NamesFirstPlace lp.now stop) }
 {
-    let slack = first_slack(lp, relaxed);
-    let rows = tableau.basis().len() as u32;
-    if !has_point(tableau, rows, slack + rows) {
+    if !has_point(tableau) {
         return Ok(None);
     }
-    if has_least_cost(tableau, rows, slack + rows) {
-        let outcome = least_answer(alloc, tableau, rows, slack)?;
+    if has_least_cost(tableau) {
+        let outcome = least_answer(alloc, tableau)?;
         return answered(alloc, relaxed, tableau.basis(), outcome);
     }
     if relaxed {
         return Ok(None);
     }
-    match first_fall(tableau, rows, slack + rows) {
+    match first_fall(tableau) {
         Some(column) => {
-            let outcome = ray_answer(alloc, tableau, rows, slack, column)?;
+            let outcome = ray_answer(alloc, tableau, column)?;
             answered(alloc, relaxed, tableau.basis(), outcome)
         },
         None => Ok(None),

@@ -7,13 +7,12 @@ ghost use Rattle.bz_lex.specs.Shown.{HasLeastCost};
 use bz_tableau::Tableau;
 
 // The greatest size of a number of the column.
-fn greatest_size(tableau: &Tableau, rows: u32, column: u32) -> u128
-    requires rows { rows ≡ length tableau.now.basis }
-    requires column { column < factor_column tableau.now }
+fn greatest_size(tableau: &Tableau, column: u32) -> u128
+    requires { column < factor_column tableau.now }
     ensures { IsGreatestSize tableau.now column result }
 {
-    let mut greatest = tableau.entry(rows, column).unsigned_abs();
-    for row in 0..rows {
+    let mut greatest = tableau.objective(column).unsigned_abs();
+    for row in 0..tableau.rows() {
         greatest = greatest.max(tableau.entry(row, column).unsigned_abs());
     }
     greatest
@@ -23,19 +22,17 @@ fn greatest_size(tableau: &Tableau, rows: u32, column: u32) -> u128
 // would do; by this choice small numbers stay small.
 fn next_choice(
     tableau: &Tableau,
-    rows: u32,
     choice: Option<(u32, u128)>,
     column: u32,
 ) -> Option<(u32, u128)>
-    requires rows { rows ≡ length tableau.now.basis }
     requires column { column < factor_column tableau.now }
     requires choice { IsChoiceOf column tableau.now choice }
     ensures { IsChoiceOf (suc column) tableau.now result }
 {
-    if tableau.entry(rows, column) >= 0 {
+    if tableau.objective(column) >= 0 {
         return choice;
     }
-    let size = greatest_size(tableau, rows, column);
+    let size = greatest_size(tableau, column);
     match choice {
         Some((_, least)) if least <= size => choice,
         _ => Some((column, size)),
@@ -44,15 +41,13 @@ fn next_choice(
 
 /// The column that enters: of those in which the objective row is negative the first whose greatest number is least in
 /// size. A phase asks only that the objective row is negative there.
-pub fn entering(tableau: &Tableau, rows: u32, side: u32) -> Option<u32>
-    requires rows { rows ≡ length tableau.now.basis }
-    requires side { side ≡ factor_column tableau.now }
+pub fn entering(tableau: &Tableau) -> Option<u32>
     ensures enters { MatchOption result (HasLeastCost tableau.now) (λ column. IsEntering tableau.now column) }
     ensures chosen { IfSome result (λ column. IsChosen tableau.now column) }
 {
     let mut choice = None;
-    for column in 0..side {
-        choice = next_choice(tableau, rows, choice, column);
+    for column in 0..tableau.columns() {
+        choice = next_choice(tableau, choice, column);
     }
     let (column, _) = choice?;
     Some(column)

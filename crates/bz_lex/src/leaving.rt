@@ -12,15 +12,14 @@ use bz_tableau::Tableau;
 use std::cmp::Ordering;
 
 // The number of a row at a place of the phase's order: in the right side, then in the columns of its first basis.
-fn number_at(tableau: &Tableau, first: &[u32], side: u32, row: u32, place: usize) -> i128
+fn number_at(tableau: &Tableau, first: &[u32], row: u32, place: usize) -> i128
     requires phase { IsOnPhase first.now tableau.now }
-    requires side { side ≡ factor_column tableau.now }
     requires row { row < length tableau.now.basis }
     requires place { place ≤ length first.now }
     ensures { result ≡ shown tableau.now row (shown_order tableau.now first.now place) }
 {
     if place == 0 {
-        tableau.entry(row, side)
+        tableau.right(row)
     } else {
         tableau.entry(row, first[place - 1])
     }
@@ -30,13 +29,11 @@ fn number_at(tableau: &Tableau, first: &[u32], side: u32, row: u32, place: usize
 fn cmp_rows(
     tableau: &Tableau,
     first: &[u32],
-    side: u32,
     column: u32,
     row: u32,
     other: u32,
 ) -> Ordering
     requires phase { IsOnPhase first.now tableau.now }
-    requires side { side ≡ factor_column tableau.now }
     requires column { column < factor_column tableau.now }
     requires row { row < length tableau.now.basis }
     requires other { other < length tableau.now.basis }
@@ -47,9 +44,9 @@ fn cmp_rows(
     let (entry, other_entry) = (tableau.entry(row, column), tableau.entry(other, column));
     for place in 0..first.len() + 1 {
         let order = cmp_quotients(
-            number_at(tableau, first, side, row, place),
+            number_at(tableau, first, row, place),
             entry,
-            number_at(tableau, first, side, other, place),
+            number_at(tableau, first, other, place),
             other_entry,
         );
         if order != Ordering::Equal {
@@ -63,13 +60,11 @@ fn cmp_rows(
 fn next_leaving(
     tableau: &Tableau,
     first: &[u32],
-    side: u32,
     column: u32,
     found: Option<u32>,
     row: u32,
 ) -> Option<u32>
     requires phase { IsOnPhase first.now tableau.now }
-    requires side { side ≡ factor_column tableau.now }
     requires column { column < factor_column tableau.now }
     requires row { row < length tableau.now.basis }
     requires found { LeavesOf row tableau.now first.now column found }
@@ -82,7 +77,7 @@ fn next_leaving(
         return Some(row);
     };
     // Two rows are never level.
-    match cmp_rows(tableau, first, side, column, row, other) {
+    match cmp_rows(tableau, first, column, row, other) {
         Ordering::Less => Some(row),
         Ordering::Equal | Ordering::Greater => found,
     }
@@ -90,16 +85,14 @@ fn next_leaving(
 
 /// The row that leaves where the column enters: of the rows that are positive there the one that is the least, divided
 /// by its number there, in the order of the phase that began at the basis `first`.
-pub fn leaving(tableau: &Tableau, first: &[u32], rows: u32, side: u32, column: u32) -> Option<u32>
+pub fn leaving(tableau: &Tableau, first: &[u32], column: u32) -> Option<u32>
     requires phase { IsOnPhase first.now tableau.now }
-    requires rows { rows ≡ length tableau.now.basis }
-    requires side { side ≡ factor_column tableau.now }
     requires column { column < factor_column tableau.now }
     ensures { MatchOption result (IsFree tableau.now column) (λ row. IsLeavingRow tableau.now first.now column row) }
 {
     let mut found = None;
-    for row in 0..rows {
-        found = next_leaving(tableau, first, side, column, found, row);
+    for row in 0..tableau.rows() {
+        found = next_leaving(tableau, first, column, found, row);
     }
     found
 }

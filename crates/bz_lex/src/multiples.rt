@@ -4,8 +4,8 @@ ghost use Rattle.bz_algebra.specs.Numbers.{IsNarrow};
 ghost use Rattle.bz_tableau.specs.Laws.{place};
 ghost use Rattle.bz_lex.specs.Shown.{IsOrderOf, own_entry, IsLeastOfTwo, HasWideMultiple, IsNarrowLeast, IsFirstWideLeast};
 
-use bz_num::{gcd, narrow_product};
-use bz_tableau::{Tableau, quotient};
+use bz_num::{exact_quotient, gcd, narrow_product};
+use bz_tableau::Tableau;
 
 // The least common multiple of two positive numbers; None where it is wide.
 fn multiple(a: i128, b: i128) -> Option<i128>
@@ -15,7 +15,7 @@ fn multiple(a: i128, b: i128) -> Option<i128>
     requires right_narrow { IsNarrow b }
     ensures { MatchOption result (HasWideMultiple a b) (λ m. IsLeastOfTwo a b m × IsNarrow m) }
 {
-    narrow_product(quotient(a, gcd(a, b)), b)
+    narrow_product(exact_quotient(a, gcd(a, b)), b)
 }
 
 /// The number of a basic column in its own row.

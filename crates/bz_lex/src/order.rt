@@ -1,8 +1,9 @@
 //! The basic columns before the slacks, in rising order.
-ghost use Rattle.std.specs.Prelude.{◌≡◌, ◌≢◌, ◌<◌, ◌^◌, ℕ, IfOk, MatchOption, length};
+ghost use Rattle.std.specs.Prelude.{◌≡◌, ◌≢◌, ◌<◌, ℕ, IfOk, MatchOption, length};
 ghost use Rattle.bz_tableau.specs.Laws.{place};
-ghost use Rattle.bz_tableau.specs.WidePlaces.{IsRisingOrder};
+ghost use Rattle.bz_lex.specs.Shown.{IsShownOrder};
 
+use bz_tableau::Tableau;
 use std::alloc::{AllocError, Global};
 
 /// The place of a column in the basis.
@@ -18,13 +19,12 @@ pub fn place_of(basis: &[u32], column: u32) -> Option<usize>
 }
 
 /// The places of the basis whose columns are before the slacks, in the rising order of the columns.
-pub fn rising_order(alloc: Global, basis: &[u32], slack: u32) -> Result<Vec<u32>, AllocError>
-    requires few { length basis.now < 2 ^ 31 }
-    ensures { IfOk result (λ order. IsRisingOrder (length basis.now) slack (place basis.now) order.items) }
+pub fn rising_order(alloc: Global, tableau: &Tableau) -> Result<Vec<u32>, AllocError>
+    ensures { IfOk result (λ order. IsShownOrder tableau.now order.items) }
 {
-    let mut order = Vec::new(alloc);
-    for j in 0..slack {
-        let Some(i) = place_of(basis, j) else {
+    let mut order = Vec::with_capacity(alloc, tableau.rows() as usize)?;
+    for j in 0..tableau.slack() {
+        let Some(i) = place_of(tableau.basis(), j) else {
             continue;
         };
         order.push(i as u32)?;

@@ -1,14 +1,10 @@
 //! One phase of the lexicographic simplex.
-ghost use Rattle.std.specs.Prelude.{◌≡◌, IfOk, IfErr, OnErr, MatchOption, length};
-ghost use Rattle.bz_tableau.specs.Programs.{IsLp};
-ghost use Rattle.bz_tableau.specs.Tables.{factor_column, IsTableauOf};
+ghost use Rattle.std.specs.Prelude.{◌≡◌, IfOk, IfErr, OnErr, MatchOption};
 ghost use Rattle.bz_lex.specs.Phases.{IsOnPhase, IsPhasePivot, IsPhaseEnd, IsPhaseTable, IsPhaseStop, MeetsNoBasisTwice};
-ghost use Rattle.bz_lex.specs.Shown.{HasPoint};
 
-use crate::answering::first_slack;
 use crate::entering::entering;
 use crate::leaving::leaving;
-use bz_tableau::{Lp, LpStop, Tableau};
+use bz_tableau::{LpStop, Tableau};
 use std::alloc::Global;
 use std::marker::Brand;
 use std::sync::ledger::{Blank, Ledger};
@@ -27,20 +23,16 @@ fn turn(
     alloc: Global,
     tableau: &mut Tableau,
     first: &[u32],
-    rows: u32,
-    side: u32,
 ) -> Result<Option<PhaseEnd>, LpStop>
-    requires phase { IsOnPhase first.now tableau.old }
-    requires rows { rows ≡ length tableau.old.basis }
-    requires side { side ≡ factor_column tableau.old }
+    requires { IsOnPhase first.now tableau.old }
     ensures turned { IfOk result (λ end. MatchOption end (IsPhasePivot first.now tableau.old tableau.new) (λ end. (tableau.new ≡ tableau.old) × IsPhaseEnd tableau.old end)) }
     ensures stopped { IfErr result (λ stop. IsPhaseStop tableau.old stop) }
     ensures unchanged { OnErr result (tableau.new ≡ tableau.old) }
 {
-    let Some(column) = entering(tableau, rows, side) else {
+    let Some(column) = entering(tableau) else {
         return Ok(Some(PhaseEnd::Least));
     };
-    let Some(row) = leaving(tableau, first, rows, side, column) else {
+    let Some(row) = leaving(tableau, first, column) else {
         return Ok(Some(PhaseEnd::Falls { column }));
     };
     tableau.pivot(alloc, row, column)?;
@@ -52,8 +44,6 @@ fn turns<L: Ledger>(
     alloc: Global,
     tableau: &mut Tableau,
     first: &[u32],
-    rows: u32,
-    side: u32,
     blank: Blank,
 ) -> Result<PhaseEnd, LpStop>
     requires name { blank.name ≡ L.name }
@@ -61,8 +51,6 @@ fn turns<L: Ledger>(
     requires part { L.parts ≡ 1 }
     requires first { first.now ≡ tableau.old.basis }
     requires phase { IsOnPhase first.now tableau.old }
-    requires rows { rows ≡ length tableau.old.basis }
-    requires side { side ≡ factor_column tableau.old }
     ensures table { IsPhaseTable tableau.old tableau.new }
     ensures once { MeetsNoBasisTwice tableau.old tableau.new }
     ensures end { IfOk result (λ end. IsPhaseEnd tableau.new end) }
@@ -70,32 +58,23 @@ fn turns<L: Ledger>(
 {
     let (mut met, mut share) = blank.open::<L>();
     loop {
-        if let Some(end) = turn(alloc, tableau, first, rows, side)? {
+        if let Some(end) = turn(alloc, tableau, first)? {
             return Ok(end);
         }
         met.add(&mut share, 1);
     }
 }
 
-/// Pivots from a tableau with a point, by the lexicographic rule, until no column enters or the objective row falls
+/// Pivots from a tableau where a phase may begin, one with a point, by the lexicographic rule, until no column enters or the objective row falls
 /// freely in one. No basis is met twice. It is refused where a pivot is, and by want of memory; the tableau is then the
 /// last one met.
-pub fn run_phase(
-    alloc: Global,
-    lp: &Lp,
-    relaxed: bool,
-    tableau: &mut Tableau,
-) -> Result<PhaseEnd, LpStop>
-    requires lp { IsLp lp.now }
-    requires tableau { IsTableauOf relaxed lp.now tableau.old }
-    requires point { HasPoint tableau.old }
+pub fn run_phase(alloc: Global, tableau: &mut Tableau) -> Result<PhaseEnd, LpStop>
+    requires { IsOnPhase tableau.old.basis tableau.old }
     ensures table { IsPhaseTable tableau.old tableau.new }
     ensures once { MeetsNoBasisTwice tableau.old tableau.new }
     ensures end { IfOk result (λ end. IsPhaseEnd tableau.new end) }
     ensures stopped { IfErr result (λ stop. IsPhaseStop tableau.old stop) }
 {
     let first = Vec::from_slice(alloc, tableau.basis())?;
-    let rows = first.len() as u32;
-    let side = first_slack(lp, relaxed) + rows;
-    turns::<Brand>(alloc, tableau, first.as_slice(), rows, side, Blank::new(1))
+    turns::<Brand>(alloc, tableau, first.as_slice(), Blank::new(1))
 }

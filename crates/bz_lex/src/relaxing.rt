@@ -2,26 +2,24 @@
 ghost use Rattle.std.specs.Prelude.{◌≡◌, ◌<◌, ◌+◌, ℕ, true, IfOk, IfErr, length, slice_set};
 ghost use Rattle.bz_tableau.specs.Laws.{place};
 ghost use Rattle.bz_tableau.specs.Programs.{IsLp};
-ghost use Rattle.bz_tableau.specs.Tables.{factor_column, IsTableauOf};
+ghost use Rattle.bz_tableau.specs.Tables.{IsTableauOf};
 ghost use Rattle.bz_lex.specs.Refusals.{IsFirstRelaxedStop};
 ghost use Rattle.bz_lex.specs.Shown.{HasPoint};
 ghost use Rattle.bz_lex.specs.Ways.{IsLeastRightTo, LeastRightTo};
 
-use crate::answering::first_slack;
 use crate::towards::pivot_towards;
 use bz_tableau::{Lp, LpStop, Tableau};
 use std::alloc::{AllocError, Global};
 
 // Of the row of the least right side and row i the one whose right side is less, the former where they are equal.
-fn lower(tableau: &Tableau, least: Option<u32>, i: u32, side: u32) -> Option<u32>
+fn lower(tableau: &Tableau, least: Option<u32>, i: u32) -> Option<u32>
     requires row { i < length tableau.now.basis }
-    requires side { side ≡ factor_column tableau.now }
     requires least { LeastRightTo i tableau.now least }
     ensures { LeastRightTo (i + 1) tableau.now result }
 {
-    let right = tableau.entry(i, side);
+    let right = tableau.right(i);
     match least {
-        Some(row) => if right < tableau.entry(row, side) {
+        Some(row) => if right < tableau.right(row) {
             Some(i)
         } else {
             Some(row)
@@ -31,14 +29,12 @@ fn lower(tableau: &Tableau, least: Option<u32>, i: u32, side: u32) -> Option<u32
 }
 
 /// The first row of the least right side, where a right side is negative.
-pub fn least_right_side(tableau: &Tableau, rows: u32, side: u32) -> Option<u32>
-    requires rows { rows ≡ length tableau.now.basis }
-    requires side { side ≡ factor_column tableau.now }
+pub fn least_right_side(tableau: &Tableau) -> Option<u32>
     ensures { LeastRightTo (length tableau.now.basis) tableau.now result }
 {
     let mut least = None;
-    for i in 0..rows {
-        least = lower(tableau, least, i, side);
+    for i in 0..tableau.rows() {
+        least = lower(tableau, least, i);
     }
     least
 }
@@ -74,9 +70,7 @@ pub fn relaxed_start(alloc: Global, lp: &Lp) -> Result<Tableau, LpStop>
     ensures refused { IfErr result (λ stop. IsFirstRelaxedStop lp.now stop) }
 {
     let mut tableau = Tableau::new(alloc, lp, true)?;
-    let rows = tableau.basis().len() as u32;
-    let side = first_slack(lp, true) + rows;
-    match least_right_side(&tableau, rows, side) {
+    match least_right_side(&tableau) {
         Some(row) => {
             enter_s(alloc, lp, &mut tableau, row)?;
             Ok(tableau)

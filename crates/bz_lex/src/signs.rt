@@ -6,13 +6,11 @@ ghost use Rattle.bz_lex.specs.Shown.{HasPoint, HasLeastCost, IsFree, IsFreeFall,
 use bz_tableau::Tableau;
 
 /// Whether no right side is negative.
-pub fn has_point(tableau: &Tableau, rows: u32, side: u32) -> bool
-    requires rows { rows ≡ length tableau.now.basis }
-    requires side { side ≡ factor_column tableau.now }
+pub fn has_point(tableau: &Tableau) -> bool
     ensures { MatchBool result (HasPoint tableau.now) (HasPoint tableau.now → ⊥) }
 {
-    for i in 0..rows {
-        if tableau.entry(i, side) < 0 {
+    for i in 0..tableau.rows() {
+        if tableau.right(i) < 0 {
             return false;
         }
     }
@@ -20,13 +18,11 @@ pub fn has_point(tableau: &Tableau, rows: u32, side: u32) -> bool
 }
 
 /// Whether no number of the objective row is negative.
-pub fn has_least_cost(tableau: &Tableau, rows: u32, side: u32) -> bool
-    requires rows { rows ≡ length tableau.now.basis }
-    requires side { side ≡ factor_column tableau.now }
+pub fn has_least_cost(tableau: &Tableau) -> bool
     ensures { MatchBool result (HasLeastCost tableau.now) (HasLeastCost tableau.now → ⊥) }
 {
-    for j in 0..side {
-        if tableau.entry(rows, j) < 0 {
+    for j in 0..tableau.columns() {
+        if tableau.objective(j) < 0 {
             return false;
         }
     }
@@ -34,12 +30,11 @@ pub fn has_least_cost(tableau: &Tableau, rows: u32, side: u32) -> bool
 }
 
 // Whether no row has a positive number in the column.
-fn is_free(tableau: &Tableau, rows: u32, column: u32) -> bool
-    requires rows { rows ≡ length tableau.now.basis }
-    requires column { column < factor_column tableau.now }
+fn is_free(tableau: &Tableau, column: u32) -> bool
+    requires { column < factor_column tableau.now }
     ensures { MatchBool result (IsFree tableau.now column) (IsFree tableau.now column → ⊥) }
 {
-    for i in 0..rows {
+    for i in 0..tableau.rows() {
         if tableau.entry(i, column) > 0 {
             return false;
         }
@@ -48,26 +43,19 @@ fn is_free(tableau: &Tableau, rows: u32, column: u32) -> bool
 }
 
 // Whether the objective row is negative in the column, and no row is positive there.
-fn is_free_fall(tableau: &Tableau, rows: u32, column: u32) -> bool
-    requires rows { rows ≡ length tableau.now.basis }
-    requires column { column < factor_column tableau.now }
+fn is_free_fall(tableau: &Tableau, column: u32) -> bool
+    requires { column < factor_column tableau.now }
     ensures { MatchBool result (IsFreeFall tableau.now column) (IsFreeFall tableau.now column → ⊥) }
 {
-    if tableau.entry(rows, column) < 0 {
-        is_free(tableau, rows, column)
-    } else {
-        false
-    }
+    tableau.objective(column) < 0 && is_free(tableau, column)
 }
 
 /// The first column in which the objective row is negative and no row is positive.
-pub fn first_fall(tableau: &Tableau, rows: u32, side: u32) -> Option<u32>
-    requires rows { rows ≡ length tableau.now.basis }
-    requires side { side ≡ factor_column tableau.now }
+pub fn first_fall(tableau: &Tableau) -> Option<u32>
     ensures { MatchOption result ((j : ℕ) → IsFreeFall tableau.now j → ⊥) (λ j. IsFirstFall tableau.now j) }
 {
-    for j in 0..side {
-        if is_free_fall(tableau, rows, j) {
+    for j in 0..tableau.columns() {
+        if is_free_fall(tableau, j) {
             return Some(j);
         }
     }

@@ -8,7 +8,7 @@ ghost use Rattle.bz_tableau.specs.Tables.{factor_column, shown, IsTableauOf};
 ghost use Rattle.bz_lex.specs.Refusals.{IsFirstStop};
 ghost use Rattle.bz_lex.specs.Shown.{HasPoint};
 ghost use Rattle.bz_tableau.specs.Stops.{IsPointBasis};
-ghost use Rattle.bz_lex.specs.Ways.{IsEntryIn, HasNoEntryIn, StandsIn, Stays, IsBrought, IsWayRefusal, IsRefusedWay};
+ghost use Rattle.bz_lex.specs.Ways.{IsEntryIn, HasNoEntryIn, StandsIn, Stays, TakesPlace, IsBrought, IsWayRefusal, IsRefusedWay};
 
 use crate::order::place_of;
 use bz_num::Items;
@@ -72,11 +72,11 @@ fn find_entry_in(tableau: &Tableau, row: u32, goal: &[u32]) -> Option<u32>
     None
 }
 
-// The column of the goal that enters in the row, unless the row's own column stands in the goal.
+// The column of the goal that takes the row's place, unless the row's own column stands in the goal.
 fn column_towards(tableau: &Tableau, row: u32, goal: &[u32]) -> Option<u32>
     requires row { row < length tableau.now.basis }
     requires goal { (k : ℕ) → k < length goal.now → place goal.now k < factor_column tableau.now }
-    ensures { MatchOption result (Stays tableau.now row goal.now) (λ column. IsEntryIn tableau.now row goal.now column) }
+    ensures { MatchOption result (Stays tableau.now row goal.now) (λ column. TakesPlace tableau.now row goal.now column) }
 {
     match place_of(goal, tableau.basis()[row as usize]) {
         Some(_) => None,
@@ -107,7 +107,7 @@ pub fn tableau_at(alloc: Global, lp: &Lp, goal: &[u32]) -> Result<Tableau, LpSto
     ensures refused { IfErr result (λ stop. IsFirstStop lp.now stop) }
 {
     let mut tableau = Tableau::new(alloc, lp, false)?;
-    let rows = tableau.basis().len() as u32;
+    let rows = tableau.rows();
     for row in 0..rows {
         bring(alloc, &mut tableau, row, goal)?;
     }

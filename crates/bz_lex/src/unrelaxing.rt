@@ -9,7 +9,6 @@ ghost use Rattle.bz_lex.specs.Shown.{HasPoint};
 ghost use Rattle.bz_tableau.specs.Stops.{IsPointBasis};
 ghost use Rattle.bz_lex.specs.Ways.{right_side, IsOtherEntry, HasNoOtherEntry, IsRenumbered};
 
-use crate::answering::first_slack;
 use crate::order::place_of;
 use crate::towards::tableau_at;
 use bz_tableau::{Lp, LpStop, Tableau};
@@ -25,12 +24,11 @@ fn is_other_entry(tableau: &Tableau, row: u32, other: u32, j: u32) -> bool
 }
 
 // A column but the other one in which the row has an entry.
-fn find_other_entry(tableau: &Tableau, row: u32, other: u32, side: u32) -> Option<u32>
-    requires row { row < length tableau.now.basis }
-    requires side { side ≡ factor_column tableau.now }
+fn find_other_entry(tableau: &Tableau, row: u32, other: u32) -> Option<u32>
+    requires { row < length tableau.now.basis }
     ensures { MatchOption result (HasNoOtherEntry tableau.now row other) (λ column. IsOtherEntry tableau.now row other column) }
 {
-    for j in 0..side {
+    for j in 0..tableau.columns() {
         if is_other_entry(tableau, row, other, j) {
             return Some(j);
         }
@@ -49,9 +47,8 @@ fn leave_s(alloc: Global, lp: &Lp, tableau: &mut Tableau) -> Result<(), LpStop>
     ensures left { IfOk result (λ _. (i : ℕ) → i < length tableau.new.basis → place tableau.new.basis i ≢ lp.now.columns) }
     ensures refused { IfErr result (λ stop. IsFirstStop lp.now stop) }
 {
-    let side = first_slack(lp, true) + tableau.basis().len() as u32;
     match place_of(tableau.basis(), lp.columns) {
-        Some(row) => match find_other_entry(tableau, row as u32, lp.columns, side) {
+        Some(row) => match find_other_entry(tableau, row as u32, lp.columns) {
             Some(column) => tableau.pivot(alloc, row as u32, column),
             None => unreachable!(),
         },

@@ -9,6 +9,7 @@ use Rattle.std.proofs.lemmas.Bool.{cases_eq, eq-eqb, lt-ltb, le-ltb}
 use Rattle.std.proofs.lemmas.List.Sums.{count_by_more_yes, sum_by-cons}
 use Rattle.bz_algebra.specs.Numbers.{IsNarrow}
 use Rattle.bz_algebra.specs.Sums.{AllBelow}
+pub use Rattle.bz_num.proofs.Rows.{below_at}
 use Rattle.bz_num.specs.Row.{IsSparse, IsSparseFrom}
 use Rattle.bz_model.specs.Parting.{part_of, position_of, terms_in, home_of, negated}
 use Rattle.bz_model.proofs.PartSums.{terms_in-here, terms_in-there}
@@ -75,12 +76,6 @@ sparse_negated es h = sparse_from_negated 0 es h
 -- one term
 pub sparse_single : (j : ℕ) (d : ℤ) → (pos 0) <ℤ d → IsNarrow d → IsSparse ((j, d) ∷ [])
 sparse_single j d h n = (record { column = omega arith; some = omega (arith, ints); narrow = n }, tt)
-
--- ---- at a place
-pub below_at : (n : ℕ) (es : List (ℕ × ℤ)) (i : ℕ) (d : ℕ × ℤ) → AllBelow n es → i < length es → (get_or es i d).0 < n
-below_at n [] i d h l = absurd (omega arith)
-below_at n (e ∷ es) zero d h l = h.0
-below_at n (e ∷ es) (suc i) d h l = below_at n es i d h.1 (omega arith)
 
 -- ---- steps of loops over the terms
 pub left_at : {X : Type 0} (es : List X) (i : ℕ) (d : X) → i < length es → drop i es ≡ get_or es i d ∷ drop (i + 1) es

@@ -5,8 +5,12 @@ pub mod DecimalFronts
 pub mod DecimalLaws
 pub mod DecimalReadings
 pub mod DecimalValues
+pub mod DenseRows
 pub mod Divisors
 pub mod Folds
 pub mod Lowest
+pub mod Pushed
+pub mod Quotients
 pub mod Reduces
+pub mod Rounding
 pub mod Rows

@@ -5,7 +5,7 @@ use Rattle.std.specs.Ordering.{nat_cmp, ordering_index}
 use Rattle.std.specs.declared.cmp.Ordering.TheVariants.{Less, Equal, Greater}
 use Rattle.std.specs.List.Sorted.{IsBinarySearchResult}
 use Rattle.std.proofs.lemmas.Bool.Decides.{nat_tests}
-use Rattle.bz_algebra.specs.Sums.{coef}
+use Rattle.bz_algebra.specs.Sums.{AllBelow, coef}
 use Rattle.bz_num.specs.Row.{IsSparse, IsSparseFrom}
 
 -- a column before the row's first one holds nothing
@@ -84,3 +84,9 @@ coef-not_found j es xs i h same answer =
     let low : k < i → ⊥ = λ before. less-columns _ _ (parts.0 k (0, pos 0) (omega arith) before) same in
     let high : i ≤ k → ⊥ = λ after. greater-columns _ _ (parts.1 k (0, pos 0) after inside) same in
     omega arith)
+
+-- the column at a place of a row whose columns are below n
+pub below_at : (n : ℕ) (es : List (ℕ × ℤ)) (i : ℕ) (d : ℕ × ℤ) → AllBelow n es → i < length es → (get_or es i d).0 < n
+below_at n [] i d h l = absurd (omega arith)
+below_at n (e ∷ es) zero d h l = h.0
+below_at n (e ∷ es) (suc i) d h l = below_at n es i d h.1 (omega arith)

@@ -1,5 +1,5 @@
 -- Sparse rows: pairs of a column and its number.
-use Rattle.std.specs.Prelude.{ℕ, suc, ℤ, List, [], ◌∷◌, ◌<◌, ◌≤◌}
+use Rattle.std.specs.Prelude.{ℕ, zero, suc, ℤ, pos, List, [], ◌∷◌, ◌<◌, ◌≤◌}
 use Rattle.std.specs.Int.RustNames.{unsigned_abs}
 use Rattle.bz_algebra.specs.Numbers.{IsNarrow}
 
@@ -17,3 +17,8 @@ IsSparseFrom low (e ∷ es) = IsEntryFrom low e × IsSparseFrom (suc e.0) es
 -- the columns rise, and no number is zero or wide
 abbrev pub IsSparse : List (ℕ × ℤ) → Type 0
 IsSparse es = IsSparseFrom 0 es
+
+-- the pair of a column and its number, none for the number 0
+abbrev pub entry_at : ℕ → ℤ → List (ℕ × ℤ)
+entry_at j (pos zero) = []
+entry_at j z = (j, z) ∷ []

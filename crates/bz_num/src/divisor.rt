@@ -3,6 +3,7 @@ ghost use Rattle.std.specs.Prelude.{◌≡◌, pos, ◌≤ℤ◌};
 ghost use Rattle.std.specs.Int.{IsGcd};
 ghost use Rattle.std.specs.Int.RustNames.{unsigned_abs};
 ghost use Rattle.bz_algebra.specs.Numbers.{IsNarrow};
+ghost use Rattle.bz_num.specs.Dense.{AreNarrow, IsDivisorOf};
 
 /// The greatest common divisor of two numbers, 0 for two zeros. It takes no memory.
 pub fn gcd(a: i128, b: i128) -> i128
@@ -20,4 +21,21 @@ pub fn gcd(a: i128, b: i128) -> i128
         y = rest;
     }
     x as i128
+}
+
+/// The greatest common divisor of the numbers, 0 where all are 0.
+pub fn common_divisor(row: &[i128]) -> i128
+    requires { AreNarrow row.now }
+    ensures sign { pos 0 ≤ℤ result }
+    ensures divisor { IsDivisorOf (unsigned_abs result) row.now }
+    ensures narrow { IsNarrow result }
+{
+    let mut divisor = 0;
+    for number in row {
+        if divisor == 1 {
+            return 1;
+        }
+        divisor = gcd(divisor, *number);
+    }
+    divisor
 }

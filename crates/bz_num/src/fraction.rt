@@ -2,7 +2,7 @@
 ghost use Rattle.std.specs.Prelude.{pos, ◌<ℤ◌};
 ghost use Rattle.bz_algebra.specs.Numbers.{IsNarrow};
 
-use crate::division::exact_quotient;
+use crate::division::{divide, exact_quotient};
 use crate::divisor::gcd;
 
 /// The number num / den, with den at least 1. It need not be in lowest terms.
@@ -19,6 +19,7 @@ pub struct Frac {
 
 impl Frac {
     ghost use Rattle.bz_num.specs.Lowest.{IsLowest};
+    ghost use Rattle.bz_num.specs.Rounding.{IsCeiling, IsFloor};
 
     /// The fraction num / den, in lowest terms. It takes no memory.
     pub fn reduced(num: i128, den: i128) -> Frac
@@ -32,5 +33,22 @@ impl Frac {
             num: exact_quotient(num, divisor),
             den: exact_quotient(den, divisor),
         }
+    }
+
+    /// The greatest whole number that is at most the fraction.
+    pub fn floor(self) -> i128
+        ensures value { IsFloor self result }
+        ensures narrow { IsNarrow result }
+    {
+        divide(self.num, self.den).0
+    }
+
+    /// The least whole number that is at least the fraction.
+    pub fn ceiling(self) -> i128
+        ensures value { IsCeiling self result }
+        ensures narrow { IsNarrow result }
+    {
+        let (quotient, rest) = divide(self.num, self.den);
+        if rest > 0 { quotient + 1 } else { quotient }
     }
 }

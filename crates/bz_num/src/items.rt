@@ -1,6 +1,8 @@
 //! Lists that contracts see as the list of their items.
-ghost use Rattle.std.specs.Prelude.{◌≡◌};
+ghost use Rattle.std.specs.Prelude.{◌≡◌, IfOk};
 
+use crate::memory::OutOfMemory;
+use std::alloc::Global;
 use std::marker::Model;
 
 /// A list of values, in order. Contracts see it as that list.
@@ -30,6 +32,16 @@ impl<T> Items<T> {
         ensures { result.now ≡ self.now }
     {
         self.items.as_slice()
+    }
+}
+
+impl<T: Copy> Items<T> {
+    /// A list of the same items.
+    pub fn copy(&self, alloc: Global) -> Result<Self, OutOfMemory>
+        ensures { IfOk result (λ copy. copy ≡ self.now) }
+    {
+        let items = Vec::from_slice(alloc, self.items.as_slice())?;
+        Ok(Items { items })
     }
 }
 

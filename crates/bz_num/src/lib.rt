@@ -13,11 +13,12 @@ mod narrow;
 mod products;
 mod reduce;
 mod row;
+mod sums;
 
 pub use compare::{cmp_frac, cmp_quotients};
 pub use decimal::{Dec, NumFault, decimals_have_one_value, read_decimal};
-pub use division::divide;
-pub use divisor::gcd;
+pub use division::{divide, divide_all, exact_quotient};
+pub use divisor::{common_divisor, gcd};
 pub use fraction::Frac;
 pub use items::{Items, Name};
 pub use memory::OutOfMemory;
@@ -25,6 +26,7 @@ pub use narrow::{narrow_difference, narrow_negation, narrow_product, narrow_sum}
 pub use products::{Folding, WideSum, fold};
 pub use reduce::primitive;
 pub use row::SparseRow;
+pub use sums::{Numbers, row_sum, sum_at};
 
 #[cfg(test)]
 mod tests;

@@ -20,7 +20,7 @@ pub fn primitive(row: &mut SparseRow, rhs: &mut i128) -> i128
     ensures reduced { pos 0 <ℤ result → IsRowGcd 1 row.new rhs.new }
     ensures narrow { IsNarrow rhs.new }
 {
-    let divisor = common_divisor(row.as_slice(), *rhs);
+    let divisor = row_divisor(row.as_slice(), *rhs);
     if divisor > 1 {
         row.divide_by(divisor);
         *rhs /= divisor;
@@ -29,7 +29,7 @@ pub fn primitive(row: &mut SparseRow, rhs: &mut i128) -> i128
 }
 
 // The greatest common divisor of the entries' numbers and the right side.
-fn common_divisor(entries: &[(u32, i128)], rhs: i128) -> i128
+fn row_divisor(entries: &[(u32, i128)], rhs: i128) -> i128
     requires sparse { IsSparse entries.now }
     requires narrow { IsNarrow rhs }
     ensures sign { pos 0 ≤ℤ result }

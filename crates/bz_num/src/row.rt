@@ -1,9 +1,10 @@
 //! Rows of whole numbers of which most are zero.
-ghost use Rattle.std.specs.Prelude.{◌≡◌, IfOk, pos, ◌<ℤ◌};
+ghost use Rattle.std.specs.Prelude.{◌≡◌, ◌++◌, IfErr, IfOk, pos, ◌<ℤ◌};
 ghost use Rattle.std.specs.Int.RustNames.{unsigned_abs};
-ghost use Rattle.bz_algebra.specs.Sums.{coef};
+ghost use Rattle.bz_algebra.specs.Numbers.{IsNarrow};
+ghost use Rattle.bz_algebra.specs.Sums.{AllBelow, coef};
 ghost use Rattle.bz_num.specs.Primitive.{DividesAll, times_entries};
-ghost use Rattle.bz_num.specs.Row.{IsSparse};
+ghost use Rattle.bz_num.specs.Row.{IsSparse, entry_at};
 
 use crate::memory::OutOfMemory;
 use std::alloc::Global;
@@ -63,7 +64,8 @@ impl SparseRow {
 
     /// The number at the column, 0 where the row has none there. It takes no memory.
     pub fn at(&self, column: u32) -> i128
-        ensures { result ≡ coef self.now column }
+        ensures value { result ≡ coef self.now column }
+        ensures narrow { IsNarrow result }
     {
         match self
             .entries
@@ -75,18 +77,33 @@ impl SparseRow {
         }
     }
 
+    /// Adds the number at a column above all of the row's; 0 adds nothing.
+    pub fn push(&mut self, column: u32, number: i128) -> Result<(), OutOfMemory>
+        requires above { AllBelow column self.old }
+        requires narrow { IsNarrow number }
+        ensures value { IfOk result (λ _. self.new ≡ self.old ++ entry_at column number) }
+        ensures unchanged { IfErr result (λ _. self.new ≡ self.old) }
+    {
+        if number != 0 {
+            self.entries
+                .push((column, number))
+                .map_err(|_| OutOfMemory)?;
+        }
+        Ok(())
+    }
+
     /// Divides each number by a common divisor. It takes no memory.
     pub fn divide_by(&mut self, divisor: i128)
         requires positive { pos 0 <ℤ divisor }
         requires common { DividesAll (unsigned_abs divisor) self.old }
         ensures { self.old ≡ times_entries divisor self.new }
     {
-        divide_all(self.entries.as_mut_slice(), divisor);
+        divide_entries(self.entries.as_mut_slice(), divisor);
     }
 }
 
 // Divides each number of the entries by a common divisor.
-fn divide_all(entries: &mut [(u32, i128)], divisor: i128)
+fn divide_entries(entries: &mut [(u32, i128)], divisor: i128)
     requires positive { pos 0 <ℤ divisor }
     requires common { DividesAll (unsigned_abs divisor) entries.old }
     ensures { entries.old ≡ times_entries divisor entries.new }

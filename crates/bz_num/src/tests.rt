@@ -49,7 +49,7 @@ fn divisors(rt: HostRuntime) {
 #[test]
 fn quotients_and_rests(rt: HostRuntime) {
     assert_eq!(rt; divide(7, 2), (3, 1));
-    assert_eq!(rt; divide(-7, 2), (-3, -1));
+    assert_eq!(rt; divide(-7, 2), (-4, 1));
     assert_eq!(rt; divide(-8, 2), (-4, 0));
 }
 
@@ -61,6 +61,27 @@ fn fractions_in_lowest_terms(rt: HostRuntime) {
     assert_eq!(rt; (nothing.num, nothing.den), (0, 1));
     let most = Frac::reduced(MOST, HALF);
     assert_eq!(rt; (most.num, most.den), (MOST, HALF));
+}
+
+#[test]
+fn fractions_rounded(rt: HostRuntime) {
+    let above = Frac { num: 7, den: 2 };
+    assert_eq!(rt; (above.floor(), above.ceiling()), (3, 4));
+    let below = Frac { num: -7, den: 2 };
+    assert_eq!(rt; (below.floor(), below.ceiling()), (-4, -3));
+    let whole = Frac { num: -8, den: 2 };
+    assert_eq!(rt; (whole.floor(), whole.ceiling()), (-4, -4));
+}
+
+#[test]
+fn rows_grow(rt: HostRuntime) -> Result<(), Fail> {
+    let mut row = SparseRow::from_pairs(rt.alloc(), &[(1, 4)])?;
+    row.push(3, 0)?;
+    row.push(9, -6)?;
+    assert_eq!(rt; row.as_slice(), [(1, 4), (9, -6)].as_slice());
+    let numbers = Items::from_vec(Vec::from_slice(rt.alloc(), &[5u8, 7])?);
+    assert_eq!(rt; numbers.copy(rt.alloc())?.as_slice(), [5, 7].as_slice());
+    Ok(())
 }
 
 #[test]

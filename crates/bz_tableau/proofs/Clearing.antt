@@ -13,7 +13,7 @@ use Rattle.std.specs.Int.RustNames.{unsigned_abs}
 use Rattle.bz_algebra.specs.Numbers.{IsNarrow}
 use Rattle.bz_algebra.proofs.Bounded.{by_lt}
 use Rattle.bz_algebra.proofs.Ring.{mul_left, mul_zero, zero_mul, one_mul, cancel_left, mul-ne, positive-ne, of_nonnegative}
-use Rattle.bz_tableau.proofs.Quotients.{zero_from_size}
+use Rattle.bz_num.proofs.Quotients.{zero_from_size}
 use Rattle.bz_tableau.specs.Dense.{entry, AreNarrow, AreMultipliers, IsWideStep, IsNarrowStep, IsWideRow, IsCombined, HasWideStep, IsReduced, IsNextLine, IsMovedLine}
 
 -- ---- single steps

@@ -1,5 +1,5 @@
 -- Each answer of a program is given by its basis.
-use Rattle.std.specs.Prelude.{Bool, true, false}
+use Rattle.std.specs.Prelude.{Bool}
 use Rattle.std.proofs.Common.{refl}
 use Rattle.bz_tableau.specs.Answers.{Answers, GivesAnswer, IsAnswer, basis_of, column_of, is_of_relaxed}
 use Rattle.bz_tableau.specs.declared.answers.Answer.{Answer}

@@ -3,9 +3,9 @@ pub mod Clearing
 pub mod FirstRows
 pub mod GivenAnswers
 pub mod OneObjective
-pub mod Quotients
 pub mod Reductions
 pub mod RowsOfBasis
 pub mod TrueAnswers
 pub mod Turned
 pub mod Turns
+mod Worked

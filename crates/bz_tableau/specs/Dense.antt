@@ -1,17 +1,10 @@
--- Rows of whole numbers with one number for each column, and what a pivot makes of two of them.
-use Rattle.std.specs.Prelude.{ℕ, suc, ◌<◌, ◌≡◌, ◌≢◌, ◌⊎◌, ℤ, pos, ◌-ℤ◌, ◌*ℤ◌, ◌<ℤ◌, List, length, slice_index_or}
+-- What a pivot makes of two rows with one number for each column.
+use Rattle.std.specs.Prelude.{ℕ, suc, ◌<◌, ◌≡◌, ◌≢◌, ◌⊎◌, ℤ, pos, ◌-ℤ◌, ◌*ℤ◌, ◌<ℤ◌, List, length}
 use Rattle.std.specs.Int.{IsGcd, ◌∣◌}
 use Rattle.std.specs.Int.RustNames.{unsigned_abs}
 use Rattle.bz_algebra.specs.Numbers.{IsNarrow, IsWide}
 use Rattle.bz_algebra.specs.Tableaus.{Equations, side, IsNewRow, IsMoved}
-
--- the number of a row in a column, 0 past its end
-abbrev pub entry : List ℤ → ℕ → ℤ
-entry row j = slice_index_or row j (pos 0)
-
--- no number of the row is wide
-abbrev pub AreNarrow : List ℤ → Type 0
-AreNarrow row = (j : ℕ) → j < length row → IsNarrow (entry row j)
+pub use Rattle.bz_num.specs.Dense.{entry, AreNarrow, DividesRow, IsDivisorOf, IsDivided}
 
 -- ---- clearing a column of a row by the pivot row
 -- what is left of the pivot row's entry p and of another row's entry r after the division by their greatest common divisor: the row is taken `kept` times and the pivot row `taken` times
@@ -53,21 +46,6 @@ pub record HasWideStep (kept : ℤ) (row : List ℤ) (taken : ℤ) (pivot : List
   pub wide : IsWideStep kept (entry row column) taken (entry pivot column)
 
 -- ---- rows without a common divisor
--- d divides each number of the row
-abbrev pub DividesRow : ℕ → List ℤ → Type 0
-DividesRow d row = (j : ℕ) → j < length row → d ∣ unsigned_abs (entry row j)
-
--- g is the greatest common divisor of the row's numbers
-pub record IsDivisorOf (g : ℕ) (row : List ℤ) : Type 0 where
-  pub divides : DividesRow g row
-  pub greatest : (d : ℕ) → DividesRow d row → d ∣ g
-
--- each number of old is so many times that of new
-pub record IsDivided (divisor : ℤ) (old new : List ℤ) : Type 0 where
-  pub width : length new ≡ length old
-  pub numbers : (j : ℕ) → j < length old → entry old j ≡ divisor *ℤ entry new j
-  pub narrow : AreNarrow new
-
 -- new is old divided by its greatest common divisor, with the sign that makes it positive in the column own
 pub record IsReduced (own : ℕ) (old new : List ℤ) : Type 0 where
   pub times : ℤ

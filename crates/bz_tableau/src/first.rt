@@ -24,12 +24,11 @@ pub fn first_slack(lp: &Lp, relaxed: bool) -> usize
     }
 }
 
-// The number at a column, 0 where the row has none. None of the entries is wide.
+// The number at a column, 0 where the row has none.
 fn number_at(row: &SparseRow, column: u32) -> i128
     ensures value { result ≡ coef row.now column }
     ensures narrow { IsNarrow result }
 {
-    let _entries = row.as_slice();
     row.at(column)
 }
 

@@ -2,7 +2,6 @@
 #![tactic(auto)]
 
 mod answers;
-mod division;
 mod first;
 mod laws;
 mod line;
@@ -14,13 +13,11 @@ mod steps;
 mod tableau;
 
 pub use answers::{Answer, LpStop, Vals, WideAt};
-pub use division::quotient;
 pub use laws::{
     answers_are_given, answers_are_true, bases_are_few, objective_rows_are_unique,
     right_sides_change_no_basis, rows_are_unique, tableau_has_rows_of_basis,
 };
 pub use programs::{Lp, LpRow};
-pub use reducing::{common_divisor, divide_all};
 pub use tableau::Tableau;
 
 #[cfg(test)]

@@ -1,46 +1,11 @@
 //! Rows divided by their greatest common divisor.
-ghost use Rattle.std.specs.Prelude.{◌≡◌, ◌≢◌, ◌<◌, pos, ◌≤ℤ◌, ◌<ℤ◌, length};
-ghost use Rattle.std.specs.Int.{◌∣◌};
+ghost use Rattle.std.specs.Prelude.{◌≢◌, ◌<◌, pos, ◌<ℤ◌, length};
 ghost use Rattle.std.specs.Int.RustNames.{unsigned_abs};
 ghost use Rattle.bz_algebra.specs.Numbers.{IsNarrow};
-ghost use Rattle.bz_tableau.specs.Dense.{entry, AreNarrow, DividesRow, IsDivisorOf, IsDivided, IsReduced};
+ghost use Rattle.bz_tableau.specs.Dense.{entry, AreNarrow, IsDivisorOf, IsReduced};
 
-use crate::division::quotient;
 use crate::line::Line;
-use bz_num::gcd;
-
-/// The greatest common divisor of the numbers.
-pub fn common_divisor(row: &[i128]) -> i128
-    requires { AreNarrow row.now }
-    ensures sign { pos 0 ≤ℤ result }
-    ensures divisor { IsDivisorOf (unsigned_abs result) row.now }
-    ensures narrow { IsNarrow result }
-{
-    let mut divisor = 0;
-    for number in row {
-        if divisor == 1 {
-            return 1;
-        }
-        divisor = gcd(divisor, *number);
-    }
-    divisor
-}
-
-/// Divides each number by a common divisor, of either sign.
-pub fn divide_all(row: &mut [i128], divisor: i128)
-    requires narrow { AreNarrow row.old }
-    requires divisor_narrow { IsNarrow divisor }
-    requires nonzero { divisor ≢ pos 0 }
-    requires divides { DividesRow (unsigned_abs divisor) row.old }
-    ensures { IsDivided divisor row.old row.new }
-{
-    if divisor == 1 {
-        return;
-    }
-    for j in 0..row.len() {
-        row[j] = quotient(row[j], divisor);
-    }
-}
+use bz_num::{common_divisor, divide_all};
 
 /// The greatest common divisor of the numbers, with the sign of the one in the column `own`.
 pub fn signed_divisor(row: &[i128], own: usize) -> i128

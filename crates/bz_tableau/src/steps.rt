@@ -3,8 +3,7 @@ ghost use Rattle.std.specs.Prelude.{◌≡◌, ◌≢◌, pos, ◌*ℤ◌, ◌-�
 ghost use Rattle.bz_algebra.specs.Numbers.{IsNarrow};
 ghost use Rattle.bz_tableau.specs.Dense.{AreMultipliers, IsNarrowStep, IsCombined, HasWideStep};
 
-use crate::division::quotient;
-use bz_num::{gcd, narrow_difference, narrow_product};
+use bz_num::{exact_quotient, gcd, narrow_difference, narrow_product};
 use std::alloc::{AllocError, Global};
 
 /// How often the row and the pivot row are taken: their entries in the pivot's column, divided by the greatest common
@@ -24,8 +23,8 @@ pub fn find_multipliers(pivot: i128, number: i128) -> Multipliers
 {
     let divisor = gcd(pivot, number);
     Multipliers {
-        kept: quotient(pivot, divisor),
-        taken: quotient(number, divisor),
+        kept: exact_quotient(pivot, divisor),
+        taken: exact_quotient(number, divisor),
     }
 }
 

@@ -1,5 +1,5 @@
 //! The exact tableau of a basis.
-ghost use Rattle.std.specs.Prelude.{◌≡◌, ◌≢◌, ◌<◌, ◌≤◌, ◌+◌, pos, ◌<ℤ◌, IfOk, IfErr, OnErr, length};
+ghost use Rattle.std.specs.Prelude.{◌≡◌, ◌≢◌, ◌<◌, ◌≤◌, ◌^◌, pos, ◌<ℤ◌, IfOk, IfErr, OnErr, length};
 ghost use Rattle.std.specs.List.{range_with_len};
 ghost use Rattle.bz_algebra.specs.Numbers.{IsNarrow};
 ghost use Rattle.bz_tableau.specs.Pivots.{IsPivoted};
@@ -67,21 +67,65 @@ impl Tableau {
         self.basis.as_slice()
     }
 
+    /// How many rows the program has; the objective row is the one behind them. It takes no memory.
+    pub fn rows(&self) -> u32
+        ensures { result ≡ length self.now.basis }
+    {
+        self.basis.len() as u32
+    }
+
+    /// The number of the first slack: how many columns stand before the slacks. It takes no memory.
+    pub fn slack(&self) -> u32
+        ensures { result ≡ self.now.slack }
+    {
+        self.slack
+    }
+
+    /// How many columns there are, the slacks among them. It takes no memory.
+    pub fn columns(&self) -> u32
+        ensures value { result ≡ factor_column self.now }
+        ensures few { result < 2 ^ 31 }
+    {
+        self.slack + self.rows()
+    }
+
     /// The number of a row in a column; the row behind the program's is the objective row, and the column behind the
     /// last is the right side. It takes no memory.
     pub fn entry(&self, row: u32, column: u32) -> i128
         requires row { row ≤ length self.now.basis }
-        requires column { column ≤ self.now.slack + length self.now.basis }
+        requires column { column ≤ factor_column self.now }
         ensures value { result ≡ shown self.now row column }
         ensures narrow { IsNarrow result }
     {
-        let factor = self.slack as usize + self.basis.len();
-        let place = if column as usize == factor {
-            factor + 1
-        } else {
-            column as usize
-        };
-        self.rows[row as usize].as_slice()[place]
+        let factor = self.columns();
+        let place = if column == factor { factor + 1 } else { column };
+        self.rows[row as usize].as_slice()[place as usize]
+    }
+
+    /// The right side of a row of the program. It takes no memory.
+    pub fn right(&self, row: u32) -> i128
+        requires { row < length self.now.basis }
+        ensures value { result ≡ shown self.now row (factor_column self.now) }
+        ensures narrow { IsNarrow result }
+    {
+        self.entry(row, self.columns())
+    }
+
+    /// The number of the objective row in a column. It takes no memory.
+    pub fn objective(&self, column: u32) -> i128
+        requires { column < factor_column self.now }
+        ensures value { result ≡ shown self.now (length self.now.basis) column }
+        ensures narrow { IsNarrow result }
+    {
+        self.entry(self.rows(), column)
+    }
+
+    /// The right side of the objective row. It takes no memory.
+    pub fn objective_right(&self) -> i128
+        ensures value { result ≡ shown self.now (length self.now.basis) (factor_column self.now) }
+        ensures narrow { IsNarrow result }
+    {
+        self.entry(self.rows(), self.columns())
     }
 
     /// How often the objective row takes the cost, at least 1. It takes no memory.
@@ -90,8 +134,7 @@ impl Tableau {
         ensures positive { pos 0 <ℤ result }
         ensures narrow { IsNarrow result }
     {
-        let factor = self.slack as usize + self.basis.len();
-        self.rows[self.basis.len()].as_slice()[factor]
+        self.rows[self.basis.len()].as_slice()[self.columns() as usize]
     }
 
     /// Puts the column at the place of the row in the basis, and makes the rows of that basis. It is refused where a

@@ -1,15 +1,10 @@
 use Rattle.std.proofs.Common.{rules, sym, FitsSigned, to_z-of_z}
 use Rattle.std.specs.Int.{w128}
-use Rattle.bz_cut.proofs.Costs.{coef-narrow, coef_turned}
+use Rattle.bz_cut.proofs.Costs.{coef_turned}
 use Rattle.bz_cut.proofs.lists.column_cost.Goals as goal
-
-pub inner_number-requires : goal.inner_number-requires
-inner_number-requires c =
-    let fits : FitsSigned w128 c.at.result = search rules in
-    rw (to_z-of_z fits, c.at.ensures) (coef-narrow 0 c.args.model.now.cost c.args.column c.requires)
 
 pub returns-clause-value : goal.returns-clause-value
 returns-clause-value c =
     let fits : FitsSigned w128 c.at.result = search rules in
     let fits_too : FitsSigned w128 c.inner_number.result = search rules in
-    rw (to_z-of_z fits_too, c.inner_number.ensures.value, to_z-of_z fits, c.at.ensures) (sym (coef_turned c.args.model.now.maximise c.args.model.now.cost c.args.column))
+    rw (to_z-of_z fits_too, c.inner_number.ensures.value, to_z-of_z fits, c.at.ensures.value) (sym (coef_turned c.args.model.now.maximise c.args.model.now.cost c.args.column))

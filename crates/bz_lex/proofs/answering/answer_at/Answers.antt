@@ -11,25 +11,25 @@ answered-requires c = small_least c.args.relaxed c.args.lp.now c.args.tableau.no
 
 pub returns-then-has_least_cost-clause-answer : goal.returns-then-has_least_cost-clause-answer
 returns-then-has_least_cost-clause-answer c =
-    let shown = rw c.basis-then-has_least_cost.ensures at c.answered.ensures in
+    let shown = rw c.basis.ensures at c.answered.ensures in
     outcome_answer c.args.relaxed c.args.lp.now c.args.tableau.now.basis c.in_ok-outcome.outcome c.answered.result shown
     (least_outcome c.args.relaxed c.args.lp.now c.args.tableau.now c.requires.tableau c.if-not-has_point.ensures c.if-has_least_cost.ensures c.in_ok-outcome.outcome c.in_ok-outcome.ensures)
 
 pub returns-then-has_least_cost-clause-narrow : goal.returns-then-has_least_cost-clause-narrow
 returns-then-has_least_cost-clause-narrow c =
-    let shown = rw c.basis-then-has_least_cost.ensures at c.answered.ensures in
+    let shown = rw c.basis.ensures at c.answered.ensures in
     outcome_narrow c.args.relaxed c.args.lp.now c.args.tableau.now.basis c.in_ok-outcome.outcome c.answered.result shown
     (least_outcome c.args.relaxed c.args.lp.now c.args.tableau.now c.requires.tableau c.if-not-has_point.ensures c.if-has_least_cost.ensures c.in_ok-outcome.outcome c.in_ok-outcome.ensures)
 
 pub returns-then-has_least_cost-clause-refused : goal.returns-then-has_least_cost-clause-refused
 returns-then-has_least_cost-clause-refused c =
-    let shown = rw c.basis-then-has_least_cost.ensures at c.answered.ensures in
+    let shown = rw c.basis.ensures at c.answered.ensures in
     outcome_refused c.args.relaxed c.args.lp.now c.args.tableau.now.basis c.in_ok-outcome.outcome c.answered.result shown
     (least_outcome c.args.relaxed c.args.lp.now c.args.tableau.now c.requires.tableau c.if-not-has_point.ensures c.if-has_least_cost.ensures c.in_ok-outcome.outcome c.in_ok-outcome.ensures)
 
 pub returns-then-has_least_cost-clause-first : goal.returns-then-has_least_cost-clause-first
 returns-then-has_least_cost-clause-first c =
-    let shown = rw c.basis-then-has_least_cost.ensures at c.answered.ensures in
+    let shown = rw c.basis.ensures at c.answered.ensures in
     outcome_first c.args.relaxed c.args.lp.now c.args.tableau.now.basis c.in_ok-outcome.outcome c.answered.result shown
     (least_outcome c.args.relaxed c.args.lp.now c.args.tableau.now c.requires.tableau c.if-not-has_point.ensures c.if-has_least_cost.ensures c.in_ok-outcome.outcome c.in_ok-outcome.ensures)
 

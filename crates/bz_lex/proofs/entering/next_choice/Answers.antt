@@ -4,12 +4,12 @@ use Rattle.std.specs.Int.{w128}
 use Rattle.bz_lex.proofs.PhaseSteps.{choice_same, choice_kept, choice_new, second_is}
 use Rattle.bz_lex.proofs.entering.next_choice.Goals as goal
 
-pub returns-then-entry-ge0 : goal.returns-then-entry-ge0
-returns-then-entry-ge0 c =
-    let fits : FitsSigned w128 c.entry.result = search rules in
-    let test = rw (to_z-of_z fits) at c.if-entry-ge0.true in
-    let sign : (pos 0) ≤ℤ c.entry.result = search rules in
-    choice_same c.args.tableau.now c.args.column c.args.choice c.requires.choice (rw (c.entry.ensures.value, c.requires.rows) at sign)
+pub returns-then-objective-ge0 : goal.returns-then-objective-ge0
+returns-then-objective-ge0 c =
+    let fits : FitsSigned w128 c.objective.result = search rules in
+    let test = rw (to_z-of_z fits) at c.if-objective-ge0.true in
+    let sign : (pos 0) ≤ℤ c.objective.result = search rules in
+    choice_same c.args.tableau.now c.args.column c.args.choice c.requires.choice (rw c.objective.ensures.value at sign)
 
 pub returns-in-Some : goal.returns-in-Some
 returns-in-Some c =
@@ -18,8 +18,8 @@ returns-in-Some c =
 
 pub returns-in_default : goal.returns-in_default
 returns-in_default c =
-    let fits : FitsSigned w128 c.entry.result = search rules in
-    let test = rw (to_z-of_z fits) at c.if-entry-ge0.false in
-    let sign : c.entry.result <ℤ (pos 0) = search rules in
-    choice_new c.args.tableau.now c.args.column c.greatest_size-size.result c.args.choice c.requires.column c.requires.choice (rw (c.entry.ensures.value, c.requires.rows) at sign) c.greatest_size-size.ensures
+    let fits : FitsSigned w128 c.objective.result = search rules in
+    let test = rw (to_z-of_z fits) at c.if-objective-ge0.false in
+    let sign : c.objective.result <ℤ (pos 0) = search rules in
+    choice_new c.args.tableau.now c.args.column c.greatest_size-size.result c.args.choice c.requires.column c.requires.choice (rw c.objective.ensures.value at sign) c.greatest_size-size.ensures
     (λ b e. second_is c.args.choice c.in-Some.field-0-0 c.in-Some.least c.greatest_size-size.result c.in-Some.is c.if-least-size.false b e)

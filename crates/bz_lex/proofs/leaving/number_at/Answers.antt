@@ -7,5 +7,5 @@ use Rattle.bz_lex.proofs.leaving.number_at.Goals as goal
 
 pub returns-else-place-eq0 : goal.returns-else-place-eq0
 returns-else-place-eq0 c =
-    let fits : FitsSigned w128 c.entry-else-place-eq0.result = search rules in
-    rw (to_z-of_z fits) (c.entry-else-place-eq0.ensures.value ∙ ap (λ (j : ℕ). shown c.args.tableau.now c.args.row j) (sym (order_later c.args.tableau.now c.args.first.now c.args.place c.if-place-eq0.false)))
+    let fits : FitsSigned w128 c.entry.result = search rules in
+    rw (to_z-of_z fits) (c.entry.ensures.value ∙ ap (λ (j : ℕ). shown c.args.tableau.now c.args.row j) (sym (order_later c.args.tableau.now c.args.first.now c.args.place c.if-place-eq0.false)))

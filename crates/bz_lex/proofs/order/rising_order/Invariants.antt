@@ -4,4 +4,4 @@ use Rattle.bz_tableau.specs.WidePlaces.{IsRisingOrder}
 use Rattle.bz_lex.proofs.order.rising_order.Given as goal
 
 abbrev pub invariant-loop-j : goal.invariant-loop-j
-invariant-loop-j l = IsRisingOrder (length l.basis) l.j (place l.basis) l.order.items
+invariant-loop-j l = IsRisingOrder (length l.tableau.basis) l.j (place l.tableau.basis) l.order.items

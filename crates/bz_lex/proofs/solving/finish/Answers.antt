@@ -3,6 +3,7 @@ use Rattle.std.proofs.Common.{false, ◌≡◌, subst, sym}
 use Rattle.bz_tableau.specs.declared.answers.LpStop.{LpStop}
 use Rattle.bz_lex.specs.Refusals.{IsFirstStop}
 use Rattle.bz_lex.proofs.EndsOfPhases.{phase_tableau, end_signs}
+use Rattle.bz_lex.proofs.PhaseTurns.{on_phase_first}
 use Rattle.bz_lex.proofs.Results.{if_err_and}
 use Rattle.bz_lex.proofs.solving.finish.Goals as goal
 
@@ -15,3 +16,6 @@ unreachable-requires c =
     let tableau = phase_tableau false c.args.lp.now c.args.tableau c.run_phase.new.tableau c.requires.tableau c.run_phase.ensures.table in
     let lacks = rw c.in-None.is at c.in_ok-answer.ensures.signs in
     lacks (end_signs c.args.lp.now c.run_phase.new.tableau tableau c.run_phase.ensures.table.point c.in_ok-run_phase.field-0 c.in_ok-run_phase.ensures.end)
+
+pub run_phase-requires : goal.run_phase-requires
+run_phase-requires c = on_phase_first false c.args.lp.now c.args.tableau c.requires.tableau c.requires.point

@@ -7,7 +7,7 @@ use Rattle.bz_lex.proofs.Results.{if_err_and}
 use Rattle.bz_lex.proofs.towards.tableau_at.Goals as goal
 
 pub loop-row-init : goal.loop-row-init
-loop-row-init c = (way_first false c.args.lp.now c.args.goal.now c.in_ok-tableau.tableau c.in_ok-tableau.ensures.tableau c.in_ok-tableau.ensures.basis, ap length (sym c.basis.ensures))
+loop-row-init c = (way_first false c.args.lp.now c.args.goal.now c.in_ok-tableau.tableau c.in_ok-tableau.ensures.tableau c.in_ok-tableau.ensures.basis, sym c.rows-rows.ensures)
 
 pub returns-in_err-bring-clause-refused : goal.returns-in_err-bring-clause-refused
 returns-in_err-bring-clause-refused c = if_err_and {P = λ stop. stop ≡ c.in_err-bring.field-0.0} {Q = λ stop. IsFirstStop c.args.lp.now stop} c.from_residual-in_err-bring.result c.from_residual-in_err-bring.ensures.1

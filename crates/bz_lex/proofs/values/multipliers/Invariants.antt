@@ -3,5 +3,5 @@ use Rattle.bz_tableau.specs.Dense.{entry}
 use Rattle.bz_tableau.specs.Tables.{shown}
 use Rattle.bz_lex.proofs.values.multipliers.Given as goal
 
-abbrev pub invariant-loop-i : goal.invariant-loop-i
-invariant-loop-i l = (length l.y.items ≡ l.i) × ((k : ℕ) → k < l.i → entry l.y.items k ≡ shown l.tableau l.rows (l.slack + k))
+abbrev pub invariant-loop-column : goal.invariant-loop-column
+invariant-loop-column l = (l.tableau.slack + length l.y.items ≡ l.column) × ((k : ℕ) → k < length l.y.items → entry l.y.items k ≡ shown l.tableau (length l.tableau.basis) (l.tableau.slack + k))

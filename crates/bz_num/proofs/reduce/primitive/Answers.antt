@@ -10,7 +10,7 @@ use Rattle.bz_num.proofs.reduce.primitive.Goals as goal
 
 pub returns-then-divisor-gt1-clause-side : goal.returns-then-divisor-gt1-clause-side
 returns-then-divisor-gt1-clause-side c =
-    let divisor : ℤ = c.common_divisor-divisor.result in
+    let divisor : ℤ = c.row_divisor-divisor.result in
     let side : ℤ = c.args.rhs.now in
     let fits : FitsSigned w128 divisor = search rules in
     let side_fits : FitsSigned w128 side = search rules in
@@ -20,7 +20,7 @@ returns-then-divisor-gt1-clause-side c =
 
 pub returns-then-divisor-gt1-clause-reduced : goal.returns-then-divisor-gt1-clause-reduced
 returns-then-divisor-gt1-clause-reduced c =
-    let divisor : ℤ = c.common_divisor-divisor.result in
+    let divisor : ℤ = c.row_divisor-divisor.result in
     let side : ℤ = c.args.rhs.now in
     let fits : FitsSigned w128 divisor = search rules in
     let side_fits : FitsSigned w128 side = search rules in
@@ -31,23 +31,23 @@ returns-then-divisor-gt1-clause-reduced c =
 
 pub returns-else-divisor-gt1-clause-numbers : goal.returns-else-divisor-gt1-clause-numbers
 returns-else-divisor-gt1-clause-numbers c =
-    let divisor : ℤ = c.common_divisor-divisor.result in
+    let divisor : ℤ = c.row_divisor-divisor.result in
     let fits : FitsSigned w128 divisor = search rules in
     let known : IsRowGcd (unsigned_abs divisor) c.args.row.now c.args.rhs.now = search rules in
     let small : divisor ≤ℤ pos 1 = grind (arith, ints) in
-    rw (to_z-of_z fits) (unit-times_entries divisor c.args.row.now c.common_divisor-divisor.ensures.sign small known.numbers)
+    rw (to_z-of_z fits) (unit-times_entries divisor c.args.row.now c.row_divisor-divisor.ensures.sign small known.numbers)
 
 pub returns-else-divisor-gt1-clause-side : goal.returns-else-divisor-gt1-clause-side
 returns-else-divisor-gt1-clause-side c =
-    let divisor : ℤ = c.common_divisor-divisor.result in
+    let divisor : ℤ = c.row_divisor-divisor.result in
     let fits : FitsSigned w128 divisor = search rules in
     let known : IsRowGcd (unsigned_abs divisor) c.args.row.now c.args.rhs.now = search rules in
     let small : divisor ≤ℤ pos 1 = grind (arith, ints) in
-    rw (to_z-of_z fits) (unit-times divisor c.args.rhs.now c.common_divisor-divisor.ensures.sign small known.side)
+    rw (to_z-of_z fits) (unit-times divisor c.args.rhs.now c.row_divisor-divisor.ensures.sign small known.side)
 
 pub returns-else-divisor-gt1-clause-reduced : goal.returns-else-divisor-gt1-clause-reduced
 returns-else-divisor-gt1-clause-reduced c =
-    let divisor : ℤ = c.common_divisor-divisor.result in
+    let divisor : ℤ = c.row_divisor-divisor.result in
     let fits : FitsSigned w128 divisor = search rules in
     let known : IsRowGcd (unsigned_abs divisor) c.args.row.now c.args.rhs.now = search rules in
     let small : divisor ≤ℤ pos 1 = grind (arith, ints) in

@@ -1,16 +1,17 @@
 use Rattle.std.proofs.Common.{rules, FitsSigned, to_z-of_z, ◌≡◌, ◌*ℤ◌}
 use Rattle.std.specs.Int.{IsGcd, w128}
 use Rattle.std.specs.Int.RustNames.{unsigned_abs}
+use Rattle.bz_algebra.proofs.Ring.{positive-ne}
 use Rattle.bz_num.proofs.Lowest.{gcd_positive, lowest_of, other_positive}
 use Rattle.bz_num.proofs.fraction.Frac.reduced.Goals as goal
 
-pub exact_quotient-requires-clause-positive : goal.exact_quotient-requires-clause-positive
-exact_quotient-requires-clause-positive c =
+pub exact_quotient-requires-clause-nonzero : goal.exact_quotient-requires-clause-nonzero
+exact_quotient-requires-clause-nonzero c =
     let num : FitsSigned w128 c.args.num = search rules in
     let den : FitsSigned w128 c.args.den = search rules in
     let divisor : FitsSigned w128 c.gcd-divisor.result = search rules in
     let gcd : IsGcd (unsigned_abs c.args.num) (unsigned_abs c.args.den) (unsigned_abs c.gcd-divisor.result) = simp (to_z-of_z num, to_z-of_z den) at c.gcd-divisor.ensures.divides in
-    rw (to_z-of_z divisor) (gcd_positive c.args.num c.args.den c.gcd-divisor.result c.requires.positive c.gcd-divisor.ensures.sign gcd)
+    rw (to_z-of_z divisor) (positive-ne c.gcd-divisor.result (gcd_positive c.args.num c.args.den c.gcd-divisor.result c.requires.positive c.gcd-divisor.ensures.sign gcd))
 
 pub exact_quotient-requires-clause-divides : goal.exact_quotient-requires-clause-divides
 exact_quotient-requires-clause-divides c =
@@ -20,13 +21,13 @@ exact_quotient-requires-clause-divides c =
     let gcd : IsGcd (unsigned_abs c.args.num) (unsigned_abs c.args.den) (unsigned_abs c.gcd-divisor.result) = simp (to_z-of_z num, to_z-of_z den) at c.gcd-divisor.ensures.divides in
     rw (to_z-of_z divisor, to_z-of_z num) gcd.0
 
-pub exact_quotient-requires-2-clause-positive : goal.exact_quotient-requires-2-clause-positive
-exact_quotient-requires-2-clause-positive c =
+pub exact_quotient-requires-2-clause-nonzero : goal.exact_quotient-requires-2-clause-nonzero
+exact_quotient-requires-2-clause-nonzero c =
     let num : FitsSigned w128 c.args.num = search rules in
     let den : FitsSigned w128 c.args.den = search rules in
     let divisor : FitsSigned w128 c.gcd-divisor.result = search rules in
     let gcd : IsGcd (unsigned_abs c.args.num) (unsigned_abs c.args.den) (unsigned_abs c.gcd-divisor.result) = simp (to_z-of_z num, to_z-of_z den) at c.gcd-divisor.ensures.divides in
-    rw (to_z-of_z divisor) (gcd_positive c.args.num c.args.den c.gcd-divisor.result c.requires.positive c.gcd-divisor.ensures.sign gcd)
+    rw (to_z-of_z divisor) (positive-ne c.gcd-divisor.result (gcd_positive c.args.num c.args.den c.gcd-divisor.result c.requires.positive c.gcd-divisor.ensures.sign gcd))
 
 pub exact_quotient-requires-2-clause-divides : goal.exact_quotient-requires-2-clause-divides
 exact_quotient-requires-2-clause-divides c =

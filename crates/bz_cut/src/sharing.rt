@@ -1,0 +1,10 @@
+//! The types of this crate may be shared by threads and moved between them.
+use crate::records::Cut;
+
+/// Takes any type whose values may be shared by threads and moved between them.
+fn crosses_threads<T: Send + Sync>() {}
+
+/// The types that cross threads.
+pub fn all_cross_threads() {
+    crosses_threads::<Cut>();
+}

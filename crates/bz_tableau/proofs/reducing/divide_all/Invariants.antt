@@ -1,6 +1,0 @@
--- The numbers so far are divided.
-use Rattle.bz_tableau.proofs.Reductions.{IsDividedTo}
-use Rattle.bz_tableau.proofs.reducing.divide_all.Given as goal
-
-abbrev pub invariant-loop-j : goal.invariant-loop-j
-invariant-loop-j l = IsDividedTo l.j l.divisor l.initial.row l.row
