@@ -1,4 +1,5 @@
-pub mod Calls
+pub mod CallNumbers
+pub mod Readings
 pub mod Takings
+pub mod Tellings
 pub mod Texts
-pub mod Untold

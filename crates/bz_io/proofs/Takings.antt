@@ -1,5 +1,5 @@
 -- What a sink has taken after one put more.
-use Rattle.std.proofs.Common.{◌≡◌, ℕ, ◌+◌, ◌-◌, ◌≤◌, List, [], ◌++◌, length, take, drop, Option, Some, None, refl, sym, ◌∙◌, ap, append_assoc, arith, append-nil}
+use Rattle.std.proofs.Common.{◌≡◌, ℕ, ◌+◌, ◌-◌, ◌≤◌, List, ◌++◌, length, take, drop, Option, Some, None, sym, ◌∙◌, append_assoc, arith, append-nil}
 use Rattle.std.proofs.lemmas.List.{take_rest, drop-take, take-take, take-append-drop}
 use Rattle.bz_io.specs.Told.{WhereTold}
 use Rattle.bz_io.specs.Sink.{Takes, TakesNothing, TakesPrefix}
@@ -17,19 +17,15 @@ take-add n m xs =
 
 -- a piece is taken behind the first bytes
 pub takes_more : (bytes : List ℕ) (sent count : ℕ) (first then now : Option (List ℕ)) → WhereTold (Takes (take sent bytes)) first then → WhereTold (Takes (take count (take (length bytes - sent) (drop sent bytes)))) then now → WhereTold (Takes (take (sent + count) bytes)) first now
-takes_more bytes sent count None None None p q = tt
+takes_more bytes sent count None then now p q = tt
 takes_more bytes sent count (Some first) (Some then) (Some now) p q =
     rw (q, p, take_rest, append_assoc, take-add)
-takes_more bytes sent count None (Some then) now p q = absurd p
 takes_more bytes sent count (Some first) None now p q = absurd p
-takes_more bytes sent count None None (Some now) p q = absurd q
 takes_more bytes sent count (Some first) (Some then) None p q = absurd q
 
 -- a failed put leaves the first bytes taken
 pub takes_prefix : (bytes : List ℕ) (sent : ℕ) (first then now : Option (List ℕ)) → sent ≤ length bytes → WhereTold (Takes (take sent bytes)) first then → WhereTold TakesNothing then now → WhereTold (TakesPrefix bytes) first now
-takes_prefix bytes sent None None None fits p q = tt
+takes_prefix bytes sent None then now fits p q = tt
 takes_prefix bytes sent (Some first) (Some then) (Some now) fits p q = record { count = sent; within = fits; taken = q ∙ p }
-takes_prefix bytes sent None (Some then) now fits p q = absurd p
 takes_prefix bytes sent (Some first) None now fits p q = absurd p
-takes_prefix bytes sent None None (Some now) fits p q = absurd q
 takes_prefix bytes sent (Some first) (Some then) None fits p q = absurd q

@@ -1,6 +1,6 @@
 -- What a desk in memory holds after its files changed.
-use Rattle.std.proofs.Common.{◌≡◌, ◌≢◌, ℕ, ◌<◌, ◌≤◌, Bool, true, false, List, [], ◌∷◌, ◌++◌, length, get_or, set, map, find, position, bytes_eq, Option, Some, None, option_map, Vec, Global, refl, sym, ◌∙◌, ap, arith, rules, inl, inr}
-use Rattle.std.specs.List.{position_or_len, slice_get}
+use Rattle.std.proofs.Common.{◌≡◌, ◌≢◌, ℕ, ◌≤◌, Bool, true, false, List, [], ◌∷◌, ◌++◌, length, get_or, set, find, position, bytes_eq, Option, Some, None, option_map, Vec, Global, refl, sym, ◌∙◌, ap, arith, inl, inr}
+use Rattle.std.specs.List.{position_or_len}
 use Rattle.std.specs.Option.{option_or}
 use Rattle.std.proofs.lemmas.Bool.{cases_Bool, false_from_ne_true}
 use Rattle.std.proofs.lemmas.Bool.Decides.{nat_tests}
@@ -9,7 +9,7 @@ use Rattle.std.proofs.lemmas.List.Sums.{position_or_len_is}
 use Rattle.std.proofs.lemmas.List.Folds.{find-set, find_past, find-append, find_at}
 use Rattle.std.proofs.lemmas.Option.{slice_get_past}
 use Rattle.std.proofs.lemmas.Slice.Eq.{bytes_eq-Decides}
-use Rattle.bz_io.specs.Desk.{Contents, Saves}
+use Rattle.bz_io.specs.Desk.{Holds}
 use Rattle.bz_io.specs.MemDesk.{texts_of, contents_of}
 
 abbrev File : Type 0
@@ -41,9 +41,13 @@ find_none p files none =
     let past : length files ≤ position_or_len p files = grind (arith, nat_tests) in
     find_at p files ∙ slice_get_past files (position_or_len p files) past
 
+-- where no file has the name, it holds nothing
+pub holds_nothing : (files : List (Vec ℕ Global × Vec ℕ Global)) (name : List ℕ) → position (λ file. bytes_eq file.0.items name) files ≡ None → contents_of (texts_of files) name ≡ None
+holds_nothing files name none = contents_of-texts_of files name ∙ ap (option_map text) (find_none (has_name name) files none)
+
 -- the first file with the name gets the text
-pub saves_set : (files : List (Vec ℕ Global × Vec ℕ Global)) (at : ℕ) (named : Vec ℕ Global) (new : Vec ℕ Global) (name : List ℕ) → position (λ file. bytes_eq file.0.items name) files ≡ Some at → (d : Vec ℕ Global × Vec ℕ Global) → named ≡ (get_or files at d).0 → Saves name new.items (contents_of (texts_of files)) (contents_of (texts_of (set files at (named, new))))
-saves_set files at named new name found d is =
+pub holds_set : (files : List (Vec ℕ Global × Vec ℕ Global)) (at : ℕ) (named : Vec ℕ Global) (new : Vec ℕ Global) (name : List ℕ) → position (λ file. bytes_eq file.0.items name) files ≡ Some at → (d : Vec ℕ Global × Vec ℕ Global) → named ≡ (get_or files at d).0 → Holds name new.items (contents_of (texts_of files)) (contents_of (texts_of (set files at (named, new))))
+holds_set files at named new name found d is =
     let there = position-Some (has_name name) files at d found in
     let place : position_or_len (has_name name) files ≡ at = position_or_len_is (has_name name) files at d (omega arith) there.2 (λ _. there.1) in
     let same : named.items ≡ name = ap (λ (v : Vec ℕ Global). v.items) is ∙ (bytes_eq-Decides (get_or files at d).0.items name).0 there.1 in
@@ -65,8 +69,8 @@ or_none None = refl
 or_none (Some file) = refl
 
 -- a file behind the others, none of which has its name
-pub saves_push : (files : List (Vec ℕ Global × Vec ℕ Global)) (named : Vec ℕ Global) (new : Vec ℕ Global) → position (λ file. bytes_eq file.0.items named.items) files ≡ None → Saves named.items new.items (contents_of (texts_of files)) (contents_of (texts_of (files ++ (named, new) ∷ [])))
-saves_push files named new none = record {
+pub holds_push : (files : List (Vec ℕ Global × Vec ℕ Global)) (named : Vec ℕ Global) (new : Vec ℕ Global) → position (λ file. bytes_eq file.0.items named.items) files ≡ None → Holds named.items new.items (contents_of (texts_of files)) (contents_of (texts_of (files ++ (named, new) ∷ [])))
+holds_push files named new none = record {
   named =
       contents_of-texts_of (files ++ (named, new) ∷ []) named.items
       ∙ ap (option_map text) (find-append (has_name named.items) files ((named, new) ∷ []))

@@ -5,3 +5,4 @@ pub mod Sink
 pub mod MemSink
 pub mod MemDesk
 pub mod Reading
+pub mod Writing

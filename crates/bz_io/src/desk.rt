@@ -1,8 +1,9 @@
 //! Whole files under names.
-ghost use Rattle.std.specs.Prelude.{◌≤◌, ℕ, length, Option, IfOk, IfErr, OnOk, OnErr};
-ghost use Rattle.bz_io.specs.Faults.{CountsFault};
-ghost use Rattle.bz_io.specs.Told.{WhereTold};
-ghost use Rattle.bz_io.specs.Desk.{Contents, Holds, IsSame, MayRefuse, CountsLoad, Saves, SavesInPart};
+ghost use Rattle.std.specs.Prelude.{◌≤◌, length, Option, IfOk, is_err};
+ghost use Rattle.bz_io.specs.declared.faults.FaultCount.{FaultCount};
+ghost use Rattle.bz_io.specs.Faults.{Counts};
+ghost use Rattle.bz_io.specs.Told.{IfTold, WhereTold};
+ghost use Rattle.bz_io.specs.Desk.{Telling, Loads, IsAfterLoads, is_failed, Saves};
 
 use std::alloc::Global;
 
@@ -26,25 +27,23 @@ pub enum SaveError {
 
 /// A place that holds bytes under names.
 pub trait Desk {
-    /// What each name holds, where the desk tells that.
-    ghost held: { Self → Option Contents };
+    /// What each name holds and which of the coming calls fail, where the desk tells that.
+    ghost told: { Self → Option Telling };
 
-    /// How many faults the desk has had. It never falls, and a fault at the last value leaves it there.
-    ghost faults: { Self → ℕ };
+    /// The faults that the desk has had.
+    ghost faults: { Self → FaultCount };
 
     /// The bytes that the name holds, all of them, if they are at most `limit`. Each name holds afterwards what it
     /// held before. A name that holds nothing is a fault of the desk.
     fn load(&mut self, alloc: Global, name: &str, limit: usize) -> Result<Vec<u8>, LoadError>
-        ensures whole { IfOk result (λ bytes. Holds (held self.old) name.now bytes.items) }
+        ensures answer { IfTold (told self.old) (λ told. Loads told name.now limit result) }
         ensures within { IfOk result (λ bytes. length bytes.items ≤ limit) }
-        ensures refused { IfErr result (λ error. MayRefuse error (held self.old) name.now limit) }
-        ensures kept { WhereTold IsSame (held self.old) (held self.new) }
-        ensures count { CountsLoad result (faults self.old) (faults self.new) };
+        ensures kept { WhereTold (IsAfterLoads 1) (told self.old) (told self.new) }
+        ensures count { Counts (is_failed result) (faults self.old) (faults self.new) };
 
     /// Makes the name hold the bytes. Each other name holds afterwards what it held before. After a failure the name
     /// holds a prefix of the bytes or what it held before.
     fn save(&mut self, name: &str, bytes: &[u8]) -> Result<(), SaveError>
-        ensures ok { OnOk result (WhereTold (Saves name.now bytes.now) (held self.old) (held self.new)) }
-        ensures failed { OnErr result (WhereTold (SavesInPart name.now bytes.now) (held self.old) (held self.new)) }
-        ensures count { CountsFault result (faults self.old) (faults self.new) };
+        ensures answer { WhereTold (Saves name.now bytes.now result) (told self.old) (told self.new) }
+        ensures count { Counts (is_err result) (faults self.old) (faults self.new) };
 }

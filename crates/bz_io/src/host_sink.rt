@@ -1,54 +1,45 @@
-//! Standard output as a sink. It is trusted: no contract says what reaches it.
-ghost use Rattle.std.specs.Prelude.{◌≡◌, ◌<◌, ◌≤◌, length, None, is_err, IfOk};
-ghost use Rattle.bz_io.specs.Faults.{CountsFault, faults_after};
+//! A writer of the machine, as a file or standard output, as a sink.
+ghost use Rattle.std.specs.Prelude.{◌≡◌};
+ghost use Rattle.bz_io.specs.Faults.{no_faults};
 
-use crate::faults::faults_after;
-use crate::{PutFailed, Sink};
-use std::marker::Model;
+use crate::retrying::write_once;
+use crate::{FaultCount, PutFailed, Sink};
+use std::io::Write;
 
-/// Standard output. It doesn't tell what it took. Contracts see it as its count of faults.
+/// A writer as a sink. It tells what the writer holds, where that tells it; a file and standard output don't.
 #[derive(Drop)]
-pub struct HostSink<'a, R: Print> {
-    rt: &'a R,
-    faults: u64,
+pub struct HostSink<W> {
+    to: W,
+    faults: FaultCount,
 }
 
-impl<'a, R: Print> Model for HostSink<'a, R> {
-    ghost use Rattle.std.specs.Prelude.{ℕ};
-
-    ghost Value = { ℕ };
-
-    ghost view = { λ s. s.faults };
-}
-
-impl<'a, R: Print> HostSink<'a, R> {
-    /// The standard output of this runtime, without a fault so far.
-    pub fn new(rt: &'a R) -> HostSink<'a, R>
-        ensures { result ≡ 0 }
+impl<W: Write> HostSink<W> {
+    /// The writer, without a fault so far.
+    pub fn new(to: W) -> HostSink<W>
+        ensures to { result.to ≡ to }
+        ensures faults { result.faults ≡ no_faults }
     {
-        HostSink { rt, faults: 0 }
+        HostSink {
+            to,
+            faults: FaultCount::none(),
+        }
     }
 }
 
-impl<'a, R: Print> Sink for HostSink<'a, R> {
-    ghost taken = { λ _. None };
+impl<W: Write> Sink for HostSink<W> {
+    ghost taken = { λ sink. W.contents sink.to };
 
-    ghost faults = { λ count. count };
+    ghost faults = { λ sink. sink.faults };
 
     /// A write that fails or takes nothing is a fault.
-    fn put(&mut self, bytes: &[u8]) -> Result<usize, PutFailed>
-        requires { 0 < length bytes.now }
-        ensures some { IfOk result (λ count. 0 < count) }
-        ensures within { IfOk result (λ count. count ≤ length bytes.now) }
-        ensures after { self.new ≡ faults_after self.old (is_err result) }
-        ensures count { CountsFault result self.old self.new }
-    {
-        match self.rt.write_some(bytes) {
-            Ok(count) if count > 0 => Ok(count),
-            _ => {
-                self.faults = faults_after(self.faults, true);
-                Err(PutFailed)
-            }
+    fn put(&mut self, bytes: &[u8]) -> Result<usize, PutFailed> {
+        let written = write_once(&mut self.to, bytes);
+        let count = written.unwrap_or(0);
+        self.faults = self.faults.after(count == 0);
+        if count == 0 {
+            Err(PutFailed)
+        } else {
+            Ok(count)
         }
     }
 }

@@ -9,9 +9,12 @@ mod host_sink;
 mod mem_desk;
 mod mem_sink;
 mod reading;
+mod retrying;
 mod sink;
+mod source;
 
 pub use desk::{Desk, LoadError, SaveError};
+pub use faults::FaultCount;
 pub use host_desk::HostDesk;
 pub use host_sink::HostSink;
 pub use mem_desk::MemDesk;

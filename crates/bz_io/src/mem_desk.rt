@@ -1,11 +1,11 @@
 //! A desk in memory, for tests.
-ghost use Rattle.std.specs.Prelude.{◌≡◌, Some, bytes_eq, find, position, option_map, option_copied, is_err, OnOk, OnErr};
-ghost use Rattle.bz_io.specs.Faults.{CountsFault};
-ghost use Rattle.bz_io.specs.Desk.{Saves, CountsLoad, is_failed};
-ghost use Rattle.bz_io.specs.MemDesk.{new_desk, texts_of, contents_of, next_call_fails, MemLoads, MemSaves, after_call};
+ghost use Rattle.std.specs.Prelude.{◌≡◌, ◌<◌, Some, None, length, bytes_eq, find, position, option_map, option_copied, is_err, IfOk, OnOk, OnErr};
+ghost use Rattle.bz_io.specs.Faults.{Counts};
+ghost use Rattle.bz_io.specs.Desk.{Holds, IsAfterLoads, LoadsText, NeedsMemory, Saves, is_failed};
+ghost use Rattle.bz_io.specs.MemDesk.{new_desk, texts_of, contents_of, call_fails, telling_of, MemSaves, after_call};
 
-use crate::faults::{faults_after, is_failed};
-use crate::{Desk, LoadError, SaveError};
+use crate::faults::is_failed;
+use crate::{Desk, FaultCount, LoadError, SaveError};
 use std::alloc::{AllocError, Global};
 use std::marker::Model;
 
@@ -18,10 +18,12 @@ pub struct MemDesk {
     files: Files,
     fails: Vec<u64>,
     calls: u64,
-    faults: u64,
+    faults: FaultCount,
 }
 
 impl Model for MemDesk {
+    ghost use Rattle.std.specs.Prelude.{◌≤◌};
+    ghost use Rattle.bz_io.specs.Faults.{last_count};
     ghost use Rattle.bz_io.specs.MemDesk.{MemDeskState, texts_of};
 
     ghost Value = { MemDeskState };
@@ -32,6 +34,8 @@ impl Model for MemDesk {
       calls = d.calls;
       faults = d.faults;
     } };
+
+    ghost invariant = { λ d. d.calls ≤ last_count };
 }
 
 impl MemDesk {
@@ -45,7 +49,7 @@ impl MemDesk {
             files,
             fails,
             calls: 0,
-            faults: 0,
+            faults: FaultCount::none(),
         }
     }
 
@@ -55,37 +59,44 @@ impl MemDesk {
     {
         text_of(&self.files, name.as_bytes())
     }
+
+    /// Whether the next call is one of those that fail.
+    fn is_listed(&self) -> bool
+        ensures { result ≡ call_fails self.now 0 }
+    {
+        self.fails.contains(&self.calls)
+    }
 }
 
 impl Desk for MemDesk {
-    ghost held = { λ desk. Some (contents_of desk.files) };
+    ghost told = { λ desk. Some (telling_of desk) };
 
     ghost faults = { λ desk. desk.faults };
 
     /// It fails where the call is listed and where the name holds nothing.
     fn load(&mut self, alloc: Global, name: &str, limit: usize) -> Result<Vec<u8>, LoadError>
-        ensures answer { MemLoads (next_call_fails self.old) (contents_of self.old.files name.now) limit result }
+        ensures answer { LoadsText (call_fails self.old 0) (contents_of self.old.files name.now) limit result }
         ensures after { self.new ≡ after_call self.old self.old.files (is_failed result) }
-        ensures count { CountsLoad result self.old.faults self.new.faults }
+        ensures count { Counts (is_failed result) self.old.faults self.new.faults }
     {
-        let listed = self.fails.contains(&self.calls);
+        let listed = self.is_listed();
         let text = text_of(&self.files, name.as_bytes());
-        let answer = copy_of(alloc, listed, text, limit);
+        let answer = copy_within(alloc, listed, text, limit);
         self.calls = self.calls.saturating_add(1);
-        self.faults = faults_after(self.faults, is_failed(&answer));
+        self.faults = self.faults.after(is_failed(&answer));
         answer
     }
 
     /// It fails where the call is listed, and then leaves the empty text, and for want of memory.
     fn save(&mut self, name: &str, bytes: &[u8]) -> Result<(), SaveError>
-        ensures answer { MemSaves (next_call_fails self.old) name.now bytes.now self.old.files self.new.files result }
+        ensures answer { MemSaves (call_fails self.old 0) name.now bytes.now self.old.files self.new.files result }
         ensures after { self.new ≡ after_call self.old self.new.files (is_err result) }
-        ensures count { CountsFault result self.old.faults self.new.faults }
+        ensures count { Counts (is_err result) self.old.faults self.new.faults }
     {
-        let listed = self.fails.contains(&self.calls);
+        let listed = self.is_listed();
         let saved = store_unless(listed, self.alloc, &mut self.files, name.as_bytes(), bytes);
         self.calls = self.calls.saturating_add(1);
-        self.faults = faults_after(self.faults, saved.is_err());
+        self.faults = self.faults.after(saved.is_err());
         saved
     }
 }
@@ -101,14 +112,24 @@ fn text_of<'a>(files: &'a [(Vec<u8>, Vec<u8>)], name: &[u8]) -> Option<&'a [u8]>
         .map(|file| file.1.as_slice())
 }
 
+/// A copy of the bytes. Where there are none it takes no memory.
+fn copy_of(alloc: Global, bytes: &[u8]) -> Result<Vec<u8>, AllocError>
+    ensures ok { IfOk result (λ copy. copy.items ≡ bytes.now) }
+    ensures cause { OnErr result (0 < length bytes.now) }
+{
+    let mut copy = Vec::with_capacity(alloc, bytes.len())?;
+    copy.extend_from_slice(bytes)?;
+    Ok(copy)
+}
+
 /// A copy of the text, where there is one and it is within the limit and the call isn't listed.
-fn copy_of(
+fn copy_within(
     alloc: Global,
     listed: bool,
     text: Option<&[u8]>,
     limit: usize,
 ) -> Result<Vec<u8>, LoadError>
-    ensures { MemLoads listed (option_copied text.entry) limit result }
+    ensures { LoadsText listed (option_copied text.entry) limit result }
 {
     if listed {
         return Err(LoadError::Failed);
@@ -119,7 +140,7 @@ fn copy_of(
     if bytes.len() > limit {
         return Err(LoadError::TooLong);
     }
-    match Vec::from_slice(alloc, bytes) {
+    match copy_of(alloc, bytes) {
         Ok(copy) => Ok(copy),
         Err(_) => Err(LoadError::OutOfMemory),
     }
@@ -147,10 +168,11 @@ fn store_unless(
 
 /// Makes the first file with the name, or a new one at the end, hold the text. Want of memory changes nothing.
 fn store(alloc: Global, files: &mut Files, name: &[u8], text: &[u8]) -> Result<(), AllocError>
-    ensures ok { OnOk result (Saves name.now text.now (contents_of (texts_of files.old.items)) (contents_of (texts_of files.new.items))) }
-    ensures err { OnErr result (files.new.items ≡ files.old.items) }
+    ensures ok { OnOk result (Holds name.now text.now (contents_of (texts_of files.old.items)) (contents_of (texts_of files.new.items))) }
+    ensures kept { OnErr result (files.new.items ≡ files.old.items) }
+    ensures cause { OnErr result (NeedsMemory name.now text.now (contents_of (texts_of files.old.items))) }
 {
-    let text = Vec::from_slice(alloc, text)?;
+    let text = copy_of(alloc, text)?;
     match place_of(files, name) {
         Some(at) => {
             let file = &mut files[at];

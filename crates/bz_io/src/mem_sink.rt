@@ -1,9 +1,9 @@
 //! A sink in memory, for tests.
-ghost use Rattle.std.specs.Prelude.{◌≡◌, ◌<◌, ◌≤◌, min, length, Some, IsTrue, IsErr, IfOk};
-ghost use Rattle.bz_io.specs.Faults.{CountsFault};
+ghost use Rattle.std.specs.Prelude.{◌≡◌, ◌⊎◌, ◌<◌, ◌≤◌, min, length, Some, IsTrue, IsErr, IfOk, OnErr, is_err};
+ghost use Rattle.bz_io.specs.Faults.{Counts};
 ghost use Rattle.bz_io.specs.MemSink.{new_sink, next_put_fails, after_put};
 
-use crate::{PutFailed, Sink};
+use crate::{FaultCount, PutFailed, Sink};
 use std::alloc::Global;
 use std::marker::Model;
 
@@ -14,17 +14,18 @@ pub struct MemSink {
     piece: usize,
     fails: Vec<u64>,
     puts: u64,
-    faults: u64,
+    faults: FaultCount,
 }
 
 impl Model for MemSink {
-    ghost use Rattle.std.specs.Prelude.{◌≤◌};
+    ghost use Rattle.std.specs.Prelude.{◌≤◌, ◌-◌, length, vec_capacity};
     ghost use Rattle.bz_io.specs.MemSink.{MemSinkState};
 
     ghost Value = { MemSinkState };
 
     ghost view = { λ s. record {
       taken = s.taken.items;
+      room = vec_capacity s.taken - length s.taken.items;
       piece = s.piece;
       fails = s.fails.items;
       puts = s.puts;
@@ -46,7 +47,7 @@ impl MemSink {
             piece,
             fails,
             puts: 0,
-            faults: 0,
+            faults: FaultCount::none(),
         }
     }
 
@@ -63,22 +64,22 @@ impl Sink for MemSink {
 
     ghost faults = { λ sink. sink.faults };
 
-    /// Takes the first bytes, as many as a piece has. It fails where the put is listed, and for want of memory.
+    /// Takes the first bytes, as many as a piece has. It fails where the put is listed, and where there is no memory for
+    /// more bytes than it has room for.
     fn put(&mut self, bytes: &[u8]) -> Result<usize, PutFailed>
         requires { 0 < length bytes.now }
         ensures piece { IfOk result (λ count. count ≡ min self.old.piece (length bytes.now)) }
         ensures some { IfOk result (λ count. 0 < count) }
         ensures listed { IsTrue (next_put_fails self.old) → IsErr result }
-        ensures after { self.new ≡ after_put self.old bytes.now result }
-        ensures count { CountsFault result self.old.faults self.new.faults }
+        ensures cause { OnErr result (IsTrue (next_put_fails self.old) ⊎ (self.old.room < min self.old.piece (length bytes.now))) }
+        ensures after { self.new ≡ after_put self.old bytes.now self.new.room result }
+        ensures count { Counts (is_err result) self.old.faults self.new.faults }
     {
         let listed = self.fails.contains(&self.puts);
         self.puts = self.puts.saturating_add(1);
         let count = self.piece.min(bytes.len());
-        if listed || self.taken.extend_from_slice(&bytes[..count]).is_err() {
-            self.faults = self.faults.saturating_add(1);
-            return Err(PutFailed);
-        }
-        Ok(count)
+        let failed = listed || self.taken.extend_from_slice(&bytes[..count]).is_err();
+        self.faults = self.faults.after(failed);
+        if failed { Err(PutFailed) } else { Ok(count) }
     }
 }

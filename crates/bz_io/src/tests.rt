@@ -108,8 +108,8 @@ impl Print for Recorder {
 #[test]
 fn bytes_pass_through_standard_output(rt: HostRuntime) -> Result<(), Fail> {
     let recorder = Recorder { seen: Cell::new(0) };
-    put_all(&mut HostSink::new(&recorder), b"gap 3/4")?;
+    put_all(&mut HostSink::new(io::writer(&recorder)), b"gap 3/4")?;
     assert_eq!(rt; recorder.seen.get(), u64::from_be_bytes(*b"\0gap 3/4"));
-    put_all(&mut HostSink::new(&rt), b"gap 3/4\n")?;
+    put_all(&mut HostSink::new(io::writer(&rt)), b"gap 3/4\n")?;
     Ok(())
 }
