@@ -31,7 +31,7 @@ fn cmp_unsigned(mut n: u128, mut d: u128, mut m: u128, mut e: u128) -> Ordering
     cmp_parts(n, d, m, e)
 }
 
-/// The order of the fractions n / d and m / e, which is that of their cross products. It takes no memory.
+/// The order of the fractions n / d and m / e, which is that of their cross products.
 pub fn cmp_quotients(n: i128, d: i128, m: i128, e: i128) -> Ordering
     requires left { pos 0 <ℤ d }
     requires right { pos 0 <ℤ e }
@@ -47,7 +47,7 @@ pub fn cmp_quotients(n: i128, d: i128, m: i128, e: i128) -> Ordering
     }
 }
 
-/// The order of two fractions as numbers, which is that of their cross products. It takes no memory.
+/// The order of two fractions as numbers, which is that of their cross products.
 pub fn cmp_frac(a: &Frac, b: &Frac) -> Ordering
     ensures { result ≡ int_cmp (a.now.num *ℤ b.now.den) (b.now.num *ℤ a.now.den) }
 {

@@ -31,7 +31,7 @@ pub enum NumFault {
 
 /// The decimal that the text spells: an optional sign, digits with an optional point among them,
 /// and an optional power of ten behind one of `e E d D`. Zeros at the end of the mantissa are moved
-/// to the exponent, and zero has exponent 0. It takes no memory.
+/// to the exponent, and zero has exponent 0.
 pub fn read_decimal(text: &[u8]) -> Result<Dec, NumFault>
     ensures spelled { IfOk result (IsDecimal text.now) }
     ensures within { IfOk result IsWithinLimits }

@@ -5,7 +5,7 @@ ghost use Rattle.std.specs.Int.RustNames.{unsigned_abs};
 ghost use Rattle.bz_algebra.specs.Numbers.{IsNarrow};
 ghost use Rattle.bz_num.specs.Dense.{AreNarrow, DividesRow, IsDivided};
 
-/// The quotient rounded down, and the rest, from 0 to below the divisor.
+/// The quotient rounded down, and the rest, from 0 to below the divisor, which is at least 1.
 pub fn divide(num: i128, den: i128) -> (i128, i128)
     requires { pos 0 <ℤ den }
     ensures whole { ((result.0 *ℤ den) +ℤ result.1) ≡ num }

@@ -5,7 +5,7 @@ ghost use Rattle.std.specs.Int.RustNames.{unsigned_abs};
 ghost use Rattle.bz_algebra.specs.Numbers.{IsNarrow};
 ghost use Rattle.bz_num.specs.Dense.{AreNarrow, IsDivisorOf};
 
-/// The greatest common divisor of two numbers, 0 for two zeros. It takes no memory.
+/// The greatest common divisor of two numbers, 0 for two zeros.
 pub fn gcd(a: i128, b: i128) -> i128
     requires left { IsNarrow a }
     requires right { IsNarrow b }

@@ -21,7 +21,7 @@ impl Frac {
     ghost use Rattle.bz_num.specs.Lowest.{IsLowest};
     ghost use Rattle.bz_num.specs.Rounding.{IsCeiling, IsFloor};
 
-    /// The fraction num / den, in lowest terms. It takes no memory.
+    /// The fraction num / den, in lowest terms.
     pub fn reduced(num: i128, den: i128) -> Frac
         requires num { IsNarrow num }
         requires den { IsNarrow den }

@@ -42,7 +42,7 @@ impl Folding {
     }
 
     /// Adds the product of the pair. Where the product or the sum with it is wide, nothing is
-    /// taken, and the error names the number of pairs taken before. It takes no memory.
+    /// taken, and the error names the number of pairs taken before.
     pub fn push(&mut self, a: i128, b: i128) -> Result<(), WideSum>
         requires { self.old.count + 1 < 2 ^ 64 }
         ensures fails { is_err result ≡ goes_wide self.old.sum (a, b) }
@@ -58,7 +58,7 @@ impl Folding {
         Ok(())
     }
 
-    /// The sum of the products taken. It takes no memory.
+    /// The sum of the products taken.
     pub fn sum(&self) -> i128
         ensures value { result ≡ self.now.sum }
         ensures narrow { IsNarrow result }
@@ -67,7 +67,7 @@ impl Folding {
     }
 }
 
-/// The sum of the products, in order. It takes no memory.
+/// The sum of the products, in order.
 pub fn fold(pairs: &[(i128, i128)]) -> Result<i128, WideSum>
     ensures value { result ≡ fold_of pairs.now }
     ensures sum { IfOk result (λ sum. sum ≡ products pairs.now) }

@@ -9,7 +9,7 @@ use crate::divisor::gcd;
 use crate::row::SparseRow;
 
 /// Divides the row and the right side by their greatest common divisor and answers it. Where all
-/// are zero it answers 0 and changes nothing. It takes no memory.
+/// are zero it answers 0 and changes nothing.
 pub fn primitive(row: &mut SparseRow, rhs: &mut i128) -> i128
     requires { IsNarrow rhs.old }
     ensures sign { pos 0 ≤ℤ result }

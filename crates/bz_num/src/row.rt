@@ -1,5 +1,5 @@
 //! Rows of whole numbers of which most are zero.
-ghost use Rattle.std.specs.Prelude.{◌≡◌, ◌++◌, IfErr, IfOk, pos, ◌<ℤ◌};
+ghost use Rattle.std.specs.Prelude.{◌≡◌, ◌++◌, IfOk, OnErr, OnOk, pos, ◌<ℤ◌};
 ghost use Rattle.std.specs.Int.RustNames.{unsigned_abs};
 ghost use Rattle.bz_algebra.specs.Numbers.{IsNarrow};
 ghost use Rattle.bz_algebra.specs.Sums.{AllBelow, coef};
@@ -38,7 +38,7 @@ impl SparseRow {
         Ok(SparseRow { entries })
     }
 
-    /// The row of these pairs. It takes no memory.
+    /// The row of these pairs.
     pub fn from_vec(entries: Vec<(u32, i128)>) -> Self
         requires { IsSparse entries.items }
         ensures { result ≡ entries.items }
@@ -54,7 +54,7 @@ impl SparseRow {
         Ok(SparseRow { entries })
     }
 
-    /// The pairs, in order. It takes no memory.
+    /// The pairs, in order.
     pub fn as_slice(&self) -> &[(u32, i128)]
         ensures value { result.now ≡ self.now }
         ensures sparse { IsSparse self.now }
@@ -62,7 +62,7 @@ impl SparseRow {
         self.entries.as_slice()
     }
 
-    /// The number at the column, 0 where the row has none there. It takes no memory.
+    /// The number at the column, 0 where the row has none there.
     pub fn at(&self, column: u32) -> i128
         ensures value { result ≡ coef self.now column }
         ensures narrow { IsNarrow result }
@@ -77,12 +77,12 @@ impl SparseRow {
         }
     }
 
-    /// Adds the number at a column above all of the row's; 0 adds nothing.
+    /// Adds the number at a column above all of the row's; 0 adds nothing. For want of memory the row stays as it was.
     pub fn push(&mut self, column: u32, number: i128) -> Result<(), OutOfMemory>
         requires above { AllBelow column self.old }
         requires narrow { IsNarrow number }
-        ensures value { IfOk result (λ _. self.new ≡ self.old ++ entry_at column number) }
-        ensures unchanged { IfErr result (λ _. self.new ≡ self.old) }
+        ensures value { OnOk result (self.new ≡ self.old ++ entry_at column number) }
+        ensures unchanged { OnErr result (self.new ≡ self.old) }
     {
         if number != 0 {
             self.entries
@@ -92,7 +92,7 @@ impl SparseRow {
         Ok(())
     }
 
-    /// Divides each number by a common divisor. It takes no memory.
+    /// Divides each number by a common divisor.
     pub fn divide_by(&mut self, divisor: i128)
         requires positive { pos 0 <ℤ divisor }
         requires common { DividesAll (unsigned_abs divisor) self.old }

@@ -9,10 +9,10 @@ use crate::row::SparseRow;
 
 /// Numbers by place.
 pub trait Numbers {
-    /// The number of places.
+    /// How many places there are: they run from 0 to below this.
     ghost count: { Self → ℕ };
 
-    /// The number at a place.
+    /// The number that stands at each place.
     ghost at: { Self → ℕ → ℤ };
 
     /// The number at a place.
@@ -21,7 +21,7 @@ pub trait Numbers {
         ensures { result ≡ at self.now place };
 }
 
-/// The sum of the row's numbers, each times the number at its place, or its first wide place.
+/// The sum of the row's numbers, each times the number at its place, or the first of these pairs at which it is wide.
 pub fn sum_at<N: Numbers>(row: &SparseRow, numbers: &N) -> Result<i128, WideSum>
     requires { AllBelow (N.count numbers.now) row.now }
     ensures { result ≡ fold_of (pairs_at row.now (N.at numbers.now)) }
@@ -49,7 +49,8 @@ impl Numbers for Listed<'_> {
     }
 }
 
-/// The sum of the row's numbers, each times the one of the list at its place, or its first wide place.
+/// The sum of the row's numbers, each times the one of the list at its place, or the first of these pairs at which
+/// it is wide.
 pub fn row_sum(row: &SparseRow, numbers: &[i128]) -> Result<i128, WideSum>
     requires { AllBelow (length numbers.now) row.now }
     ensures { result ≡ fold_of (pairs_at row.now (entry numbers.now)) }
