@@ -7,6 +7,7 @@ use Rattle.bz_algebra.specs.Sums.{AllBelow}
 use Rattle.bz_model.specs.declared.Column.{Column}
 use Rattle.bz_model.specs.declared.Model.{Model}
 use Rattle.bz_model.specs.declared.Row.{Row}
+use Rattle.bz_model.specs.Limits.{IsWithinLimits}
 use Rattle.bz_model.specs.Parting.{part_of}
 use Rattle.bz_model.specs.Strict.{HasItsColumns, IsInOneBlock, IsPartition, IsStrict, IsStrictColumn}
 use Rattle.bz_model.specs.Worked.{AreWorkedColumns}
@@ -62,3 +63,6 @@ linked_strict a m k r = let n = two_columns m.columns k in let o = one_row a m.r
   columns = columns_strict m.columns k;
   small = λ b l. omega (arith, n, o, size_within m linked_part b);
 }
+
+pub linked_limits : (a : ℤ) (m : Model) → AreWorkedColumns m.columns → AreLinked a m.rows → IsWithinLimits m
+linked_limits a m c r = let n = two_columns m.columns c in let k = one_row a m.rows r in record { columns = rw n (omega arith); rows = rw k (omega arith) }

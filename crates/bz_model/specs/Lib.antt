@@ -1,6 +1,7 @@
+pub mod Limits
 pub mod Meeting
-pub mod Parting
 pub mod PartLists
+pub mod Parting
 pub mod Points
 pub mod Splits
 pub mod Strict

@@ -1,9 +1,10 @@
 -- What a split is: a model with a partition that it may be solved by, and the lists that are kept beside it.
-use Rattle.std.specs.Prelude.{ℕ, suc, ◌≡◌, ◌<◌, ◌^◌, List, length}
+use Rattle.std.specs.Prelude.{ℕ, suc, ◌≡◌, List}
 use Rattle.bz_algebra.specs.Numbers.{IsNarrow}
 use Rattle.bz_algebra.specs.Sums.{AllBelow}
 use Rattle.bz_model.specs.declared.records.Ineq.{Ineq}
 use Rattle.bz_model.specs.declared.records.Model.{Model}
+use Rattle.bz_model.specs.Limits.{IsWithinLimits}
 use Rattle.bz_model.specs.Parting.{blocks_of, columns_of, width_of, inequalities_of}
 use Rattle.bz_model.specs.PartLists.{ListsAre}
 use Rattle.bz_model.specs.Strict.{HasItsColumns, IsPartition, IsStrict}
@@ -18,7 +19,7 @@ pub record IsSplit (d : Decomposition) : Type 0 where
   pub indexes : HasItsColumns d.model
   pub partition : IsPartition d.model d.part
   pub strict : IsStrict d.model d.part
-  pub few : length d.model.columns < 2 ^ 28
+  pub limits : IsWithinLimits d.model
 
 -- an inequality speaks of positions of part b and, beside them, of the master's, and its right side is narrow
 pub record FitsPart (part : List ℕ) (b : ℕ) (i : Ineq) : Type 0 where

@@ -1,5 +1,6 @@
 //! The columns of each part, and the position of each column.
-ghost use Rattle.std.specs.Prelude.{◌≡◌, suc, ◌<◌, ◌^◌, IfOk, length};
+ghost use Rattle.std.specs.Prelude.{◌≡◌, suc, ◌<◌, IfOk, length};
+ghost use Rattle.bz_model.specs.Limits.{list_limit};
 ghost use Rattle.bz_model.specs.Parting.{blocks_of, columns_of};
 ghost use Rattle.bz_model.specs.PartLists.{ArePositions, ListsAre};
 
@@ -29,7 +30,7 @@ pub fn greatest(part: &[u32]) -> u32
 /// The columns of each part, and the position of each column. A position is how many earlier columns are in the same
 /// part, so it is the length of the part's list just before the column is added.
 pub fn find_places(alloc: Global, part: &[u32], blocks: u32) -> Result<Places, AllocError>
-    requires few { length part.now < 2 ^ 28 }
+    requires few { length part.now < list_limit }
     requires blocks { blocks ≡ blocks_of part.now }
     ensures positions { IfOk result (λ places. ArePositions part.now places.positions.items) }
     ensures columns { IfOk result (λ places. ListsAre (suc (blocks_of part.now)) (columns_of part.now) places.columns.items) }

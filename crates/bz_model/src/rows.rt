@@ -1,8 +1,9 @@
 //! The inequalities of all rows and columns, part by part.
-ghost use Rattle.std.specs.Prelude.{◌≡◌, suc, ◌<◌, ◌^◌, ◌∷◌, [], IfOk, length, pos, ◌<ℤ◌};
+ghost use Rattle.std.specs.Prelude.{◌≡◌, suc, ◌<◌, ◌∷◌, [], IfOk, length, pos, ◌<ℤ◌};
 ghost use Rattle.std.specs.List.{AllByRecursion, enumerate_from};
 ghost use Rattle.bz_algebra.specs.Numbers.{IsNarrow};
 ghost use Rattle.bz_algebra.specs.Sums.{AllBelow};
+ghost use Rattle.bz_model.specs.Limits.{IsWithinLimits, list_limit};
 ghost use Rattle.bz_model.specs.Parting.{at_least, at_most, blocks_of, home_of, inequalities_of, part_of, sides_of_row, where_some};
 ghost use Rattle.bz_model.specs.PartLists.{AreJoined, ArePositions, ListsAre, bounds_at, only_at, sides_of_columns, sides_of_rows};
 ghost use Rattle.bz_model.specs.Strict.{HasItsColumns, IsPartition};
@@ -139,7 +140,7 @@ pub fn push_columns(
     lists: &mut Vec<Growing<Ineq>>,
 ) -> Result<(), AllocError>
     requires numbers { length part.now ≡ length columns.now }
-    requires few { length columns.now < 2 ^ 28 }
+    requires few { length columns.now < list_limit }
     requires places { ArePositions part.now positions.now }
     requires room { blocks_of part.now < length lists.old.items }
     ensures { IfOk result (λ _. AreJoined lists.old.items lists.new.items (sides_of_columns part.now (enumerate_from 0 columns.now))) }
@@ -160,7 +161,7 @@ pub fn inequality_lists(
 ) -> Result<Vec<Growing<Ineq>>, AllocError>
     requires indexes { HasItsColumns model.now }
     requires partition { IsPartition model.now part.now }
-    requires few { length model.now.columns < 2 ^ 28 }
+    requires limits { IsWithinLimits model.now }
     requires places { ArePositions part.now positions.now }
     requires blocks { blocks ≡ blocks_of part.now }
     ensures { IfOk result (λ lists. ListsAre (suc (blocks_of part.now)) (inequalities_of model.now part.now) lists.items) }

@@ -1,6 +1,7 @@
 //! Splits: a model with a strict partition of its columns, and the inequalities of each part.
-ghost use Rattle.std.specs.Prelude.{◌≡◌, suc, ◌<◌, ◌≤◌, ◌^◌, IfErr, IfOk, length};
+ghost use Rattle.std.specs.Prelude.{◌≡◌, suc, ◌≤◌, IfErr, IfOk};
 ghost use Rattle.std.specs.List.{AllByRecursion};
+ghost use Rattle.bz_model.specs.Limits.{IsWithinLimits};
 ghost use Rattle.bz_model.specs.Parting.{blocks_of, columns_of, inequalities_of};
 ghost use Rattle.bz_model.specs.Splits.{Decomposition, FitsPart, IsKept, IsSplit};
 ghost use Rattle.bz_model.specs.Strict.{HasItsColumns, IsPartition, IsStrict};
@@ -53,7 +54,7 @@ pub struct Unsplit0 {
 fn keep(alloc: Global, model: &records::Model, part: &[u32]) -> Result<Kept, AllocError>
     requires indexes { HasItsColumns model.now }
     requires partition { IsPartition model.now part.now }
-    requires few { length model.now.columns < 2 ^ 28 }
+    requires limits { IsWithinLimits model.now }
     ensures { IfOk result (λ kept. IsKept model.now part.now kept.blocks kept.columns.items kept.inequalities.items) }
 {
     let blocks = greatest(part);
@@ -72,7 +73,7 @@ impl Split {
         requires indexes { HasItsColumns model }
         requires partition { IsPartition model part }
         requires strict { IsStrict model part }
-        requires few { length model.columns < 2 ^ 28 }
+        requires limits { IsWithinLimits model }
         ensures split { IfOk result (λ split. split ≡ record { model = model; part = part }) }
         ensures unchanged { IfErr result (λ unsplit. (unsplit.model ≡ model) × (unsplit.part ≡ part)) }
     {

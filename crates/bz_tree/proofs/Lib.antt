@@ -1,4 +1,3 @@
 pub mod EndLists
 pub mod NarrowSides
 pub mod OneTree
-pub mod Quotients

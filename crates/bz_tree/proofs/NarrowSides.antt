@@ -6,7 +6,6 @@ use Rattle.std.proofs.lemmas.Int.{ints}
 use Rattle.bz_algebra.specs.Numbers.{IsNarrow}
 use Rattle.bz_model.specs.Points.{coordinate}
 use Rattle.bz_tree.specs.declared.records.NodeBox.{NodeBox}
-use Rattle.bz_tree.specs.Ends.{IsNarrowBox}
 
 -- no number is wide after one is set, and so none at a place
 pub set_narrow : (xs : List ℤ) (k : ℕ) (v : ℤ) → IsNarrow v → AllByRecursion IsNarrow xs → AllByRecursion IsNarrow (set xs k v)
@@ -22,9 +21,9 @@ narrow_at (x ∷ xs) (suc k) h = narrow_at xs k h.1
 between : (l v u : ℤ) → IsNarrow l → IsNarrow u → l ≤ℤ v → v <ℤ u → IsNarrow v × IsNarrow (v +ℤ pos 1)
 between l v u h g low high = (omega (arith, ints), omega (arith, ints))
 
-pub narrow_sides : (b : NodeBox) (k : ℕ) (v : ℤ) → (coordinate b.lower k) ≤ℤ v → v <ℤ (coordinate b.upper k) → IsNarrowBox b → IsNarrowBox (record { lower = b.lower; upper = set b.upper k v }) × IsNarrowBox (record { lower = set b.lower k (v +ℤ pos 1); upper = b.upper })
-narrow_sides b k v low high h =
-    let both = between (coordinate b.lower k) v (coordinate b.upper k) (narrow_at b.lower k h.lower) (narrow_at b.upper k h.upper) low high in (
-      record { lower = h.lower; upper = set_narrow b.upper k v both.0 h.upper },
-      record { lower = set_narrow b.lower k (v +ℤ pos 1) both.1 h.lower; upper = h.upper },
-    )
+-- no end is wide after an upper end is set, or a lower end to the next number
+pub narrow_upper : (b : NodeBox) (k : ℕ) (v : ℤ) → (coordinate b.lower k) ≤ℤ v → v <ℤ (coordinate b.upper k) → AllByRecursion IsNarrow (set b.upper k v)
+narrow_upper b k v low high = set_narrow b.upper k v (between (coordinate b.lower k) v (coordinate b.upper k) (narrow_at b.lower k b.lower_narrow) (narrow_at b.upper k b.upper_narrow) low high).0 b.upper_narrow
+
+pub narrow_lower : (b : NodeBox) (k : ℕ) (v : ℤ) → (coordinate b.lower k) ≤ℤ v → v <ℤ (coordinate b.upper k) → AllByRecursion IsNarrow (set b.lower k (v +ℤ pos 1))
+narrow_lower b k v low high = set_narrow b.lower k (v +ℤ pos 1) (between (coordinate b.lower k) v (coordinate b.upper k) (narrow_at b.lower k b.lower_narrow) (narrow_at b.upper k b.upper_narrow) low high).1 b.lower_narrow

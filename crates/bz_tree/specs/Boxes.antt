@@ -1,7 +1,7 @@
 -- Boxes: for each integer column, in file order, the ends that its coordinate lies between.
 use Rattle.std.specs.Prelude.{ℤ, pos, ◌≡◌, ◌*ℤ◌, ◌-ℤ◌, ◌+ℤ◌, ◌<ℤ◌, ◌≤ℤ◌, List, length, IfSome}
 use Rattle.std.specs.List.{AllByRecursion, enumerate_from}
-use Rattle.bz_num.specs.declared.Frac.{Frac}
+use Rattle.bz_num.specs.Rounding.{IsCeiling, IsFloor}
 use Rattle.bz_model.specs.declared.Model.{Model}
 use Rattle.bz_model.specs.Parting.{integers_of}
 use Rattle.bz_model.specs.Points.{coordinate}
@@ -9,16 +9,6 @@ use Rattle.bz_model.specs.Points.{coordinate}
 pub record Box : Type 0 where
   pub lower : List ℤ
   pub upper : List ℤ
-
--- n is the greatest whole number that is at most the fraction
-pub record IsFloor (f : Frac) (n : ℤ) : Type 0 where
-  pub at_most : (n *ℤ f.den) ≤ℤ f.num
-  pub greatest : f.num <ℤ ((n +ℤ pos 1) *ℤ f.den)
-
--- n is the least whole number that is at least the fraction
-pub record IsCeiling (f : Frac) (n : ℤ) : Type 0 where
-  pub at_least : f.num ≤ℤ (n *ℤ f.den)
-  pub least : ((n -ℤ pos 1) *ℤ f.den) <ℤ f.num
 
 -- the box of the whole model: the bounds of each integer column, rounded inward
 pub record IsRootBox (m : Model) (box : Box) : Type 0 where

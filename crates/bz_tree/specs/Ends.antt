@@ -1,19 +1,14 @@
 -- The boxes of the code, and lists of the ends of integer columns.
 use Rattle.std.specs.Prelude.{ℤ, List, [], ◌∷◌, filter, IfSome}
-use Rattle.std.specs.List.{AllByRecursion}
 use Rattle.bz_algebra.specs.Numbers.{IsNarrow}
 use Rattle.bz_model.specs.declared.Column.{Column}
-use Rattle.bz_tree.specs.Boxes.{Box, IsCeiling, IsFloor}
+use Rattle.bz_num.specs.Rounding.{IsCeiling, IsFloor}
+use Rattle.bz_tree.specs.Boxes.{Box}
 use Rattle.bz_tree.specs.declared.records.NodeBox.{NodeBox}
 
 -- the box that a record of the code holds
 abbrev pub box_of : NodeBox → Box
 box_of b = record { lower = b.lower; upper = b.upper }
-
--- no end is wide
-pub record IsNarrowBox (b : NodeBox) : Type 0 where
-  pub lower : AllByRecursion IsNarrow b.lower
-  pub upper : AllByRecursion IsNarrow b.upper
 
 -- the integer columns of a list
 abbrev pub integers_among : List Column → List Column

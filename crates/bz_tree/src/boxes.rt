@@ -1,10 +1,8 @@
 //! The box of the whole model, and the two sides of a box.
 ghost use Rattle.std.specs.Prelude.{◌≡◌, ◌<◌, pos, ◌+ℤ◌, ◌<ℤ◌, ◌≤ℤ◌, IfOk, length, set};
-ghost use Rattle.std.specs.List.{AllByRecursion};
-ghost use Rattle.bz_algebra.specs.Numbers.{IsNarrow};
 ghost use Rattle.bz_model.specs.Points.{coordinate};
 ghost use Rattle.bz_tree.specs.Boxes.{IsRootBox};
-ghost use Rattle.bz_tree.specs.Ends.{IsNarrowBox, box_of};
+ghost use Rattle.bz_tree.specs.Ends.{box_of};
 ghost use Rattle.bz_tree.specs.Trees.{with_lower, with_upper};
 
 use crate::records::NodeBox;
@@ -15,8 +13,7 @@ use std::alloc::{AllocError, Global};
 
 /// The box of the whole model: the bounds of each integer column, rounded inward. Its ends may cross. It takes memory.
 pub fn root_box(alloc: Global, split: &Split) -> Result<NodeBox, OutOfMemory>
-    ensures root { IfOk result (λ root. IsRootBox split.now.model (box_of root)) }
-    ensures narrow { IfOk result (λ root. IsNarrowBox root) }
+    ensures { IfOk result (λ root. IsRootBox split.now.model (box_of root)) }
 {
     let columns = split.model().columns.as_slice();
     let lower = lower_ends(alloc, columns)?;
@@ -25,13 +22,6 @@ pub fn root_box(alloc: Global, split: &Split) -> Result<NodeBox, OutOfMemory>
         lower: Items::from_vec(lower),
         upper: Items::from_vec(upper),
     })
-}
-
-/// The same numbers. It takes memory for them.
-fn copied(alloc: Global, numbers: &[i128]) -> Result<Items<i128>, AllocError>
-    ensures { IfOk result (λ copy. copy ≡ numbers.now) }
-{
-    Ok(Items::from_vec(Vec::from_slice(alloc, numbers)?))
 }
 
 /// The numbers with another one at the place. It takes memory for them.
@@ -71,17 +61,16 @@ pub fn split_box(
     requires below { value <ℤ coordinate b.now.upper place }
     ensures at_most { IfOk result (λ sides. box_of sides.0 ≡ with_upper place value (box_of b.now)) }
     ensures above { IfOk result (λ sides. box_of sides.1 ≡ with_lower place (value +ℤ pos 1) (box_of b.now)) }
-    ensures narrow { IfOk result (λ sides. IsNarrowBox b.now → IsNarrowBox sides.0 × IsNarrowBox sides.1) }
 {
     let (lower, upper) = (b.lower.as_slice(), b.upper.as_slice());
     let left = NodeBox {
-        lower: copied(alloc, lower)?,
+        lower: b.lower.copy(alloc)?,
         upper: replaced(alloc, upper, place, value)?,
     };
     let next = next_below(value, upper[place as usize]);
     let right = NodeBox {
         lower: replaced(alloc, lower, place, next)?,
-        upper: copied(alloc, upper)?,
+        upper: b.upper.copy(alloc)?,
     };
     Ok((left, right))
 }

@@ -7,6 +7,7 @@ mod boxes;
 mod laws;
 mod records;
 mod rounding;
+mod sharing;
 
 pub use boxes::{root_box, split_box};
 pub use laws::nodes_are_of_one_tree;

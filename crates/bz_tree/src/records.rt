@@ -1,5 +1,11 @@
 //! The records of a tree.
-use bz_num::{Items, SparseRow};
+ghost use Rattle.std.specs.Prelude.{◌≡◌, IfOk};
+ghost use Rattle.std.specs.List.{AllByRecursion};
+ghost use Rattle.std.proofs.Props.{props};
+ghost use Rattle.bz_algebra.specs.Numbers.{IsNarrow};
+
+use bz_num::{Items, OutOfMemory, SparseRow};
+use std::alloc::Global;
 
 /// The ends between which the integer columns lie, in file order. They may cross.
 #[derive(Drop)]
@@ -8,6 +14,20 @@ pub struct NodeBox {
     pub lower: Items<i128>,
     /// The upper end of each integer column.
     pub upper: Items<i128>,
+    pub ghost lower_narrow: { AllByRecursion IsNarrow lower } by { Prim.hlevel props },
+    pub ghost upper_narrow: { AllByRecursion IsNarrow upper } by { Prim.hlevel props },
+}
+
+impl NodeBox {
+    /// The same box.
+    pub fn copy(&self, alloc: Global) -> Result<Self, OutOfMemory>
+        ensures { IfOk result (λ copy. copy ≡ self.now) }
+    {
+        Ok(NodeBox {
+            lower: self.lower.copy(alloc)?,
+            upper: self.upper.copy(alloc)?,
+        })
+    }
 }
 
 /// Multipliers of the inequalities that hold in a box. They bound the inner cost there from below by `bound / delta`,
@@ -20,6 +40,21 @@ pub struct Leaf {
     pub delta: i128,
     /// The bound times `delta`; positive where `delta` is 0 in a leaf that holds.
     pub bound: i128,
+    pub ghost delta_narrow: { IsNarrow delta },
+    pub ghost bound_narrow: { IsNarrow bound },
+}
+
+impl Leaf {
+    /// The same leaf.
+    pub fn copy(&self, alloc: Global) -> Result<Self, OutOfMemory>
+        ensures { IfOk result (λ copy. copy ≡ self.now) }
+    {
+        Ok(Leaf {
+            lambda: self.lambda.copy(alloc)?,
+            delta: self.delta,
+            bound: self.bound,
+        })
+    }
 }
 
 /// A node of a tree. A tree is the list of its nodes, a split before its two sides and the left side before the right.

@@ -1,37 +1,16 @@
 //! The ends of an integer column: its bounds, rounded inward.
 ghost use Rattle.std.specs.Prelude.{IfOk};
-ghost use Rattle.bz_algebra.specs.Numbers.{IsNarrow};
-ghost use Rattle.bz_tree.specs.Boxes.{IsCeiling, IsFloor};
 ghost use Rattle.bz_tree.specs.Ends.{AreEnds, IsLowerEnd, IsUpperEnd, integers_among};
 
 use bz_model::Column;
-use bz_num::{Frac, divide};
 use std::alloc::{AllocError, Global};
-
-/// The least whole number that is at least the fraction.
-fn ceiling(bound: Frac) -> i128
-    ensures value { IsCeiling bound result }
-    ensures narrow { IsNarrow result }
-{
-    let (quotient, rest) = divide(bound.num, bound.den);
-    if rest > 0 { quotient + 1 } else { quotient }
-}
-
-/// The greatest whole number that is at most the fraction.
-fn floor(bound: Frac) -> i128
-    ensures value { IsFloor bound result }
-    ensures narrow { IsNarrow result }
-{
-    let (quotient, rest) = divide(bound.num, bound.den);
-    if rest < 0 { quotient - 1 } else { quotient }
-}
 
 /// The lower end of a column, 0 where there is no bound.
 fn lower_end(column: &Column) -> i128
     ensures { IsLowerEnd column.now result }
 {
     match column.lower {
-        Some(bound) => ceiling(bound),
+        Some(bound) => bound.ceiling(),
         None => 0,
     }
 }
@@ -41,7 +20,7 @@ fn upper_end(column: &Column) -> i128
     ensures { IsUpperEnd column.now result }
 {
     match column.upper {
-        Some(bound) => floor(bound),
+        Some(bound) => bound.floor(),
         None => 0,
     }
 }

@@ -1,6 +1,4 @@
-use Rattle.std.proofs.Common.{arith}
-use Rattle.bz_model.proofs.WorkedModel.{two_columns}
-use Rattle.bz_cut.proofs.WorkedSplits.{linked_indexes, linked_partition, linked_strict}
+use Rattle.bz_cut.proofs.WorkedSplits.{linked_indexes, linked_limits, linked_partition, linked_strict}
 use Rattle.bz_cut.proofs.tests.split.Goals as goal
 
 pub new-requires-clause-indexes : goal.new-requires-clause-indexes
@@ -12,5 +10,5 @@ new-requires-clause-partition c = rw (c.from_vec-part.ensures, c.in_ok-from_slic
 pub new-requires-clause-strict : goal.new-requires-clause-strict
 new-requires-clause-strict c = rw (c.from_vec-part.ensures, c.in_ok-from_slice.ensures.items) (linked_strict _ c.in_ok-model.model c.in_ok-model.ensures.columns c.in_ok-model.ensures.rows)
 
-pub new-requires-clause-few : goal.new-requires-clause-few
-new-requires-clause-few c = let n = two_columns c.in_ok-model.model.columns c.in_ok-model.ensures.columns in rw n (omega arith)
+pub new-requires-clause-limits : goal.new-requires-clause-limits
+new-requires-clause-limits c = linked_limits _ c.in_ok-model.model c.in_ok-model.ensures.columns c.in_ok-model.ensures.rows
