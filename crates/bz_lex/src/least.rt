@@ -15,7 +15,9 @@ pub fn least_answer(
     tableau: &Tableau,
 ) -> Result<Result<Answer, usize>, AllocError>
     requires { IsShownBasis tableau.now }
-    ensures { IfOk result (λ outcome. MatchResult outcome (λ a. ShowsLeast tableau.now a) (λ k. GoesWideAtLeast tableau.now k)) }
+    ensures { IfOk result (λ outcome. MatchResult outcome
+        (λ a. ShowsLeast tableau.now a)
+        (λ k. GoesWideAtLeast tableau.now k)) }
 {
     let order = rising_order(alloc, tableau)?;
     let den = match common_multiple(tableau, order.as_slice()) {

@@ -39,7 +39,10 @@ fn cmp_rows(
     requires other { other < length tableau.now.basis }
     requires positive { pos 0 <ℤ shown tableau.now row column }
     requires other_positive { pos 0 <ℤ shown tableau.now other column }
-    ensures { MatchOrdering result (IsRowAbove tableau.now first.now column other row) (AreRowsLevel tableau.now first.now column row other) (IsRowAbove tableau.now first.now column row other) }
+    ensures { MatchOrdering result
+        (IsRowAbove tableau.now first.now column other row)
+        (AreRowsLevel tableau.now first.now column row other)
+        (IsRowAbove tableau.now first.now column row other) }
 {
     let (entry, other_entry) = (tableau.entry(row, column), tableau.entry(other, column));
     for place in 0..first.len() + 1 {

@@ -32,7 +32,9 @@ pub fn own_number(tableau: &Tableau, order: &[u32], k: usize) -> i128
 /// The least common multiple of the basic columns' own numbers, or the first place up to which it is wide.
 pub fn common_multiple(tableau: &Tableau, order: &[u32]) -> Result<i128, usize>
     requires order { IsOrderOf tableau.now order.now }
-    ensures { MatchResult result (λ m. IsNarrowLeast (length order.now) (own_entry tableau.now order.now) m) (λ k. IsFirstWideLeast (length order.now) (own_entry tableau.now order.now) k) }
+    ensures { MatchResult result
+        (λ m. IsNarrowLeast (length order.now) (own_entry tableau.now order.now) m)
+        (λ k. IsFirstWideLeast (length order.now) (own_entry tableau.now order.now) k) }
 {
     let mut least = 1;
     for k in 0..order.len() {

@@ -8,7 +8,9 @@ use std::alloc::{AllocError, Global};
 
 /// The place of a column in the basis.
 pub fn place_of(basis: &[u32], column: u32) -> Option<usize>
-    ensures { MatchOption result ((i : ℕ) → i < length basis.now → place basis.now i ≢ column) (λ i. (i < length basis.now) × (place basis.now i ≡ column)) }
+    ensures { MatchOption result
+        ((i : ℕ) → i < length basis.now → place basis.now i ≢ column)
+        (λ i. (i < length basis.now) × (place basis.now i ≡ column)) }
 {
     for i in 0..basis.len() {
         if basis[i] == column {

@@ -25,7 +25,9 @@ fn turn(
     first: &[u32],
 ) -> Result<Option<PhaseEnd>, LpStop>
     requires { IsOnPhase first.now tableau.old }
-    ensures turned { IfOk result (λ end. MatchOption end (IsPhasePivot first.now tableau.old tableau.new) (λ end. (tableau.new ≡ tableau.old) × IsPhaseEnd tableau.old end)) }
+    ensures turned { IfOk result (λ end. MatchOption end
+        (IsPhasePivot first.now tableau.old tableau.new)
+        (λ end. (tableau.new ≡ tableau.old) × IsPhaseEnd tableau.old end)) }
     ensures stopped { IfErr result (λ stop. IsPhaseStop tableau.old stop) }
     ensures unchanged { OnErr result (tableau.new ≡ tableau.old) }
 {
@@ -65,9 +67,9 @@ fn turns<L: Ledger>(
     }
 }
 
-/// Pivots from a tableau where a phase may begin, one with a point, by the lexicographic rule, until no column enters or the objective row falls
-/// freely in one. No basis is met twice. It is refused where a pivot is, and by want of memory; the tableau is then the
-/// last one met.
+/// Pivots from a tableau with a point, where a phase may begin, by the lexicographic rule, until no column enters or the
+/// objective row falls freely in one. No basis is met twice. It is refused where a pivot is, and by want of memory; the
+/// tableau is then the last one met.
 pub fn run_phase(alloc: Global, tableau: &mut Tableau) -> Result<PhaseEnd, LpStop>
     requires { IsOnPhase tableau.old.basis tableau.old }
     ensures table { IsPhaseTable tableau.old tableau.new }

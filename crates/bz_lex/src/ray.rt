@@ -47,7 +47,9 @@ fn direction(
     requires order { IsOrderOf tableau.now order.now }
     requires column { column < factor_column tableau.now }
     requires den { IsNarrowLeast (length order.now) (own_entry tableau.now order.now) den }
-    ensures { IfOk result (λ outcome. MatchResult outcome (λ d. IsShownMove tableau.now order.now den column d.items) (λ k. IsFirstWideOver (length order.now) tableau.now order.now (neg_ℤ den) column k)) }
+    ensures { IfOk result (λ outcome. MatchResult outcome
+        (λ d. IsShownMove tableau.now order.now den column d.items)
+        (λ k. IsFirstWideOver (length order.now) tableau.now order.now (neg_ℤ den) column k)) }
 {
     match values(alloc, tableau, order, -den, column)? {
         Ok(moves) => {
@@ -67,7 +69,9 @@ pub fn ray_answer(
 ) -> Result<Result<Answer, usize>, AllocError>
     requires column { column < factor_column tableau.now }
     requires basis { IsShownBasis tableau.now }
-    ensures { IfOk result (λ outcome. MatchResult outcome (λ a. ShowsRay tableau.now column a) (λ k. GoesWideAtRay tableau.now column k)) }
+    ensures { IfOk result (λ outcome. MatchResult outcome
+        (λ a. ShowsRay tableau.now column a)
+        (λ k. GoesWideAtRay tableau.now column k)) }
 {
     let order = rising_order(alloc, tableau)?;
     let den = match common_multiple(tableau, order.as_slice()) {

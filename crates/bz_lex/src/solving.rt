@@ -77,8 +77,8 @@ fn has_slack_point(lp: &Lp) -> bool
 }
 
 /// What the program comes to: a point of least cost, no point, or a cost without bound, by a basis that shows it. It is
-/// refused where a pivot on the way, or a number of the answer, is wide, and by want of memory; a number of the answer is
-/// named by its first wide place.
+/// refused where a pivot on the way is wide or a number of the answer, which is named by its first wide place, and by
+/// want of memory.
 pub fn solve(alloc: Global, lp: &Lp) -> Result<Answer, LpStop>
     requires { IsLp lp.now }
     ensures answers { IfOk result (λ a. Answers lp.now a) }
@@ -99,8 +99,7 @@ pub fn solve(alloc: Global, lp: &Lp) -> Result<Answer, LpStop>
 }
 
 /// The point of the relaxed program whose last number, s, is least: there is one always. It is refused where a pivot on
-/// the way, or a number of the answer, is wide, and by want of memory; a number of the answer is named by its first wide
-/// place.
+/// the way is wide or a number of the answer, which is named by its first wide place, and by want of memory.
 pub fn relax(alloc: Global, lp: &Lp) -> Result<Answer, LpStop>
     requires { IsLp lp.now }
     ensures answers { IfOk result (λ a. IsAnswer true lp.now a) }

@@ -62,7 +62,9 @@ pub fn pivot_towards(
 fn find_entry_in(tableau: &Tableau, row: u32, goal: &[u32]) -> Option<u32>
     requires row { row < length tableau.now.basis }
     requires goal { (k : ℕ) → k < length goal.now → place goal.now k < factor_column tableau.now }
-    ensures { MatchOption result (HasNoEntryIn tableau.now row goal.now) (λ column. IsEntryIn tableau.now row goal.now column) }
+    ensures { MatchOption result
+        (HasNoEntryIn tableau.now row goal.now)
+        (λ column. IsEntryIn tableau.now row goal.now column) }
 {
     for k in 0..goal.len() {
         if tableau.entry(row, goal[k]) != 0 {
@@ -76,7 +78,9 @@ fn find_entry_in(tableau: &Tableau, row: u32, goal: &[u32]) -> Option<u32>
 fn column_towards(tableau: &Tableau, row: u32, goal: &[u32]) -> Option<u32>
     requires row { row < length tableau.now.basis }
     requires goal { (k : ℕ) → k < length goal.now → place goal.now k < factor_column tableau.now }
-    ensures { MatchOption result (Stays tableau.now row goal.now) (λ column. TakesPlace tableau.now row goal.now column) }
+    ensures { MatchOption result
+        (Stays tableau.now row goal.now)
+        (λ column. TakesPlace tableau.now row goal.now column) }
 {
     match place_of(goal, tableau.basis()[row as usize]) {
         Some(_) => None,

@@ -26,7 +26,9 @@ fn is_other_entry(tableau: &Tableau, row: u32, other: u32, j: u32) -> bool
 // A column but the other one in which the row has an entry.
 fn find_other_entry(tableau: &Tableau, row: u32, other: u32) -> Option<u32>
     requires { row < length tableau.now.basis }
-    ensures { MatchOption result (HasNoOtherEntry tableau.now row other) (λ column. IsOtherEntry tableau.now row other column) }
+    ensures { MatchOption result
+        (HasNoOtherEntry tableau.now row other)
+        (λ column. IsOtherEntry tableau.now row other column) }
 {
     for j in 0..tableau.columns() {
         if is_other_entry(tableau, row, other, j) {
@@ -44,7 +46,8 @@ fn leave_s(alloc: Global, lp: &Lp, tableau: &mut Tableau) -> Result<(), LpStop>
     requires zero { right_side tableau.old (length tableau.old.basis) ≡ pos 0 }
     ensures tableau { IfOk result (λ _. IsTableauOf true lp.now tableau.new) }
     ensures point { IfOk result (λ _. HasPoint tableau.new) }
-    ensures left { IfOk result (λ _. (i : ℕ) → i < length tableau.new.basis → place tableau.new.basis i ≢ lp.now.columns) }
+    ensures left { IfOk result (λ _.
+        (i : ℕ) → i < length tableau.new.basis → place tableau.new.basis i ≢ lp.now.columns) }
     ensures refused { IfErr result (λ stop. IsFirstStop lp.now stop) }
 {
     match place_of(tableau.basis(), lp.columns) {

@@ -35,7 +35,9 @@ pub fn values(
     requires column { column ≤ factor_column tableau.now }
     requires den { IsNarrow den }
     requires divides { IsMultipleTo (length order.now) (own_entry tableau.now order.now) (unsigned_abs den) }
-    ensures { IfOk result (λ outcome. MatchResult outcome (λ values. AreValuesTo (length order.now) tableau.now order.now den column values.items) (λ k. IsFirstWideOver (length order.now) tableau.now order.now den column k)) }
+    ensures { IfOk result (λ outcome. MatchResult outcome
+        (λ values. AreValuesTo (length order.now) tableau.now order.now den column values.items)
+        (λ k. IsFirstWideOver (length order.now) tableau.now order.now den column k)) }
 {
     let mut values = vec![in alloc; 0; tableau.slack() as usize]?;
     for k in 0..order.len() {

@@ -133,7 +133,8 @@ fn first_entry(lp: &Lp, relaxed: bool, i: usize, j: usize) -> i128
 fn first_line(alloc: Global, lp: &Lp, relaxed: bool, i: usize) -> Result<Line, AllocError>
     requires lp { IsLp lp.now }
     requires row { i < suc (length lp.now.rows) }
-    ensures { IfOk result (λ row. IsFirstLineTo (suc (side (lp_equations relaxed lp.now))) (lp_equations relaxed lp.now) i row) }
+    ensures { IfOk result (λ row.
+        IsFirstLineTo (suc (side (lp_equations relaxed lp.now))) (lp_equations relaxed lp.now) i row) }
 {
     let width = first_slack(lp, relaxed) + lp.rows.as_slice().len() + 2;
     let mut numbers = Vec::with_capacity(alloc, width)?;
@@ -146,7 +147,8 @@ fn first_line(alloc: Global, lp: &Lp, relaxed: bool, i: usize) -> Result<Line, A
 /// The rows of the program and its objective, with a number for each column.
 pub fn first_lines(alloc: Global, lp: &Lp, relaxed: bool) -> Result<Vec<Line>, AllocError>
     requires { IsLp lp.now }
-    ensures { IfOk result (λ rows. AreFirstLinesTo (suc (length lp.now.rows)) (lp_equations relaxed lp.now) rows.items) }
+    ensures { IfOk result (λ rows.
+        AreFirstLinesTo (suc (length lp.now.rows)) (lp_equations relaxed lp.now) rows.items) }
 {
     let count = lp.rows.as_slice().len() + 1;
     let mut rows = Vec::with_capacity(alloc, count)?;
@@ -159,7 +161,8 @@ pub fn first_lines(alloc: Global, lp: &Lp, relaxed: bool) -> Result<Vec<Line>, A
 /// The slacks, by row.
 pub fn first_basis(alloc: Global, lp: &Lp, relaxed: bool) -> Result<Vec<u32>, AllocError>
     requires { IsLp lp.now }
-    ensures { IfOk result (λ basis. basis.items ≡ range_with_len (lp_equations relaxed lp.now).slack (length lp.now.rows)) }
+    ensures { IfOk result (λ basis.
+        basis.items ≡ range_with_len (lp_equations relaxed lp.now).slack (length lp.now.rows)) }
 {
     let slack = first_slack(lp, relaxed);
     let count = lp.rows.as_slice().len();

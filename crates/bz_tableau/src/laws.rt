@@ -17,17 +17,22 @@ pub fn tableau_has_rows_of_basis()
 
 /// A basis has one row at most for each place.
 pub fn rows_are_unique()
-    ensures { (s : Equations) (basis : ℕ → ℕ) (i : ℕ) (v w : ℕ → ℤ) → IsBasis s basis → i < s.rows → IsRow s basis i v → IsRow s basis i w → (j : ℕ) → j ≤ side s → v j ≡ w j }
+    ensures { (s : Equations) (basis : ℕ → ℕ) (i : ℕ) (v w : ℕ → ℤ) → IsBasis s basis → i < s.rows → IsRow s basis i v →
+        IsRow s basis i w → (j : ℕ) → j ≤ side s → v j ≡ w j }
 {}
 
 /// The columns of a basis have one objective row at most, in whatever order they stand.
 pub fn objective_rows_are_unique()
-    ensures { (relaxed : Bool) (p : Program) (basis other : ℕ → ℕ) (d e : ℤ) (y z : ℕ → ℤ) → IsBasis (rows_of relaxed p) basis → IsBasis (rows_of relaxed p) other → AreAlike p.rows basis other → IsObjectiveRow relaxed p basis d y → IsObjectiveRow relaxed p other e z → (d ≡ e) × ((i : ℕ) → i < p.rows → y i ≡ z i) }
+    ensures { (relaxed : Bool) (p : Program) (basis other : ℕ → ℕ) (d e : ℤ) (y z : ℕ → ℤ) →
+        IsBasis (rows_of relaxed p) basis → IsBasis (rows_of relaxed p) other → AreAlike p.rows basis other →
+        IsObjectiveRow relaxed p basis d y → IsObjectiveRow relaxed p other e z →
+        (d ≡ e) × ((i : ℕ) → i < p.rows → y i ≡ z i) }
 {}
 
 /// Lists of `count` columns below a bound, no two of them with the same columns, are at most 2^bound.
 pub fn bases_are_few()
-    ensures { (bound count : ℕ) (bases : List (ℕ → ℕ)) → AllWithinBound count bound bases → NoTwoAlike count bases → length bases ≤ 2 ^ bound }
+    ensures { (bound count : ℕ) (bases : List (ℕ → ℕ)) → AllWithinBound count bound bases → NoTwoAlike count bases →
+        length bases ≤ 2 ^ bound }
 {}
 
 /// A basis of a program is one of every program with the same columns, terms and cost, whatever the right sides; and in

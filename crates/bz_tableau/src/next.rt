@@ -24,7 +24,9 @@ pub fn next_line(
     requires nonzero { entry pivot.now e ≢ pos 0 }
     requires own_positive { pos 0 <ℤ entry row.now own_column }
     requires cleared { entry pivot.now own_column ≡ pos 0 }
-    ensures { IfOk result (λ outcome. MatchOption outcome (IsWideRow pivot.now row.now e) (λ new. IsNextLine row.now pivot.now e own_column new)) }
+    ensures { IfOk result (λ outcome. MatchOption outcome
+        (IsWideRow pivot.now row.now e)
+        (λ new. IsNextLine row.now pivot.now e own_column new)) }
 {
     let old = row.as_slice();
     let by = pivot.as_slice();
@@ -73,7 +75,9 @@ pub fn turned_line(
     requires column { e < slack + length basis.now }
     requires nonzero { number rows.now r e ≢ pos 0 }
     requires inside { i < length rows.now }
-    ensures { IfOk result (λ outcome. MatchOption outcome (IsWideLine rows.now r e i) (λ new. IsTurnedLine slack basis.now rows.now r e i new)) }
+    ensures { IfOk result (λ outcome. MatchOption outcome
+        (IsWideLine rows.now r e i)
+        (λ new. IsTurnedLine slack basis.now rows.now r e i new)) }
 {
     if i == r {
         Ok(Some(moved_line(alloc, &rows[r], e)?))
@@ -95,7 +99,9 @@ pub fn next_lines(
     requires place { r < length basis.now }
     requires column { e < slack + length basis.now }
     requires nonzero { number rows.now r e ≢ pos 0 }
-    ensures { IfOk result (λ outcome. MatchResult outcome (λ new. AreNextLines slack basis.now rows.now r e new.items) (λ i. IsFirstWideRow rows.now r e i)) }
+    ensures { IfOk result (λ outcome. MatchResult outcome
+        (λ new. AreNextLines slack basis.now rows.now r e new.items)
+        (λ i. IsFirstWideRow rows.now r e i)) }
 {
     let mut new = Vec::with_capacity(alloc, rows.len())?;
     for i in 0..rows.len() {

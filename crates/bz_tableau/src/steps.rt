@@ -50,7 +50,9 @@ pub fn combine(
     pivot: &[i128],
 ) -> Result<Option<Vec<i128>>, AllocError>
     requires { length row.now ≡ length pivot.now }
-    ensures { IfOk result (λ outcome. MatchOption outcome (HasWideStep kept row.now taken pivot.now) (λ new. IsCombined kept row.now taken pivot.now new.items)) }
+    ensures { IfOk result (λ outcome. MatchOption outcome
+        (HasWideStep kept row.now taken pivot.now)
+        (λ new. IsCombined kept row.now taken pivot.now new.items)) }
 {
     let mut new = Vec::with_capacity(alloc, row.len())?;
     for j in 0..row.len() {

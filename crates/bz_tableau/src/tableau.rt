@@ -47,7 +47,8 @@ impl Tableau {
     pub fn new(alloc: Global, lp: &Lp, relaxed: bool) -> Result<Tableau, OutOfMemory>
         requires { IsLp lp.now }
         ensures tableau { IfOk result (λ t. IsTableauOf relaxed lp.now t) }
-        ensures basis { IfOk result (λ t. t.basis ≡ range_with_len (lp_equations relaxed lp.now).slack (length lp.now.rows)) }
+        ensures basis { IfOk result (λ t.
+            t.basis ≡ range_with_len (lp_equations relaxed lp.now).slack (length lp.now.rows)) }
     {
         let slack = first_slack(lp, relaxed) as u32;
         let basis = first_basis(alloc, lp, relaxed)?;
