@@ -8,5 +8,6 @@ pub mod DecimalValues
 pub mod Divisors
 pub mod Folds
 pub mod Lowest
+pub mod NarrowSums
 pub mod Reduces
 pub mod Rows

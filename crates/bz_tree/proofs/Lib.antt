@@ -1,4 +1,7 @@
 pub mod EndLists
+pub mod IntegerPositions
+pub mod LeafSides
 pub mod NarrowSides
+pub mod OneRoot
 pub mod OneTree
 pub mod Quotients
