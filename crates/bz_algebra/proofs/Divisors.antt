@@ -122,14 +122,14 @@ common_divisor (suc n) v = let c = common_divisor n v in one_more n v c (bezout 
 
 -- ---- primitive vectors
 -- what a natural divides is a multiple of it
-part : ℕ → ℤ → ℤ
+pub part : ℕ → ℤ → ℤ
 part d (pos n) = pos (n / d)
 part d (negsuc n) = neg_ℤ (pos (suc n / d))
 
 whole : (d n : ℕ) → d ∣ n → n ≡ d * (n / d)
 whole d n h = omega (arith, div-add-mod n d, mod-eq-zero_of_dvd d h)
 
-part_is : (d : ℕ) (z : ℤ) → d ∣ unsigned_abs z → z ≡ pos d *ℤ part d z
+pub part_is : (d : ℕ) (z : ℤ) → d ∣ unsigned_abs z → z ≡ pos d *ℤ part d z
 unfolding part
 part_is d (pos n) h = ap pos (whole d n h)
 part_is d (negsuc n) h = ap (λ (t : ℕ). neg_ℤ (pos t)) (whole d (suc n) h) ∙ sym (mul_neg (pos d) (pos (suc n / d)))

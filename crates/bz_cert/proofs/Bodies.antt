@@ -9,7 +9,8 @@ use Rattle.bz_tree.specs.declared.TreeNode.{TreeNode}
 use Rattle.bz_cert.specs.declared.records.Certificate.{Certificate}
 use Rattle.bz_cert.specs.declared.records.Verdict.{Verdict}
 use Rattle.bz_cert.specs.declared.words.Word.{Word}
-use Rattle.bz_cert.specs.Shapes.{AreCuts, AreNodes, IsNarrowCut, IsNarrowNode}
+use Rattle.bz_cert.specs.Shapes.{AreCuts, AreNodes, IsNarrowNode}
+use Rattle.bz_cut.specs.Narrow.{IsNarrowCut}
 use Rattle.bz_cert.specs.CertText.{CertLine, IsWritableCut, IsWritableNode, block_lines, bound_lines, cut_line, laid_out, line_with, node_line}
 use Rattle.bz_cert.specs.CertFaults.{BreaksTree, IsIn, Passes, Standing}
 use Rattle.bz_cert.specs.CertReading.{Awaits, PassFrom, Reads, ReadsLine, advance, advance_all}

@@ -9,7 +9,9 @@ use Rattle.bz_tree.specs.declared.TreeNode.{TreeNode}
 use Rattle.bz_tree.specs.Trees.{Tree, fork, preorder, tip}
 use Rattle.bz_cert.specs.declared.records.Verdict.{Verdict}
 use Rattle.bz_cert.specs.declared.words.Word.{Word}
-use Rattle.bz_cert.specs.Shapes.{IsNarrowCut, IsNarrowLeaf, IsNarrowNode}
+use Rattle.bz_cut.specs.Narrow.{IsNarrowCut}
+use Rattle.bz_tree.specs.Narrow.{IsNarrowLeaf}
+use Rattle.bz_cert.specs.Shapes.{IsNarrowNode}
 use Rattle.bz_cert.specs.CertText.{CertLine, IsSparseList, IsWritableCut, IsWritableNode, cut_line, line_with, node_line}
 use Rattle.bz_cert.specs.CertFaults.{BreaksTree, IsIn, IsIndex, IsWhole, Passes, Standing, words_behind, words_of_cuts}
 use Rattle.bz_cert.specs.CertReading.{BeginsWithList, PassFrom, advance, advance_all, tree_words}

@@ -16,7 +16,9 @@ use Rattle.bz_cert.specs.declared.records.Certificate.{Certificate}
 use Rattle.bz_cert.specs.declared.records.Verdict.{Verdict}
 use Rattle.bz_cert.specs.declared.records.Verdict.TheVariants.{Optimal, Infeasible, Unbounded}
 use Rattle.bz_cert.specs.declared.words.Word.{Word}
-use Rattle.bz_cert.specs.Shapes.{AreCuts, AreNodes, HasCutsOf, HasPartsOf, HasRayOf, HasTreeOf, HasValueOf, IsNarrowCut, IsNarrowLeaf, IsNarrowNode, IsShaped}
+use Rattle.bz_cert.specs.Shapes.{AreCuts, AreNodes, HasCutsOf, HasPartsOf, HasRayOf, HasTreeOf, HasValueOf, IsNarrowNode, IsShaped}
+use Rattle.bz_cut.specs.Narrow.{IsNarrowCut}
+use Rattle.bz_tree.specs.Narrow.{IsNarrowLeaf}
 use Rattle.bz_cert.specs.CertText.{CertLine, HasFewBlocks, IsSparseList, IsWritable, IsWritableCut, IsWritableNode, block_lines, bound_lines, cert_lines, cut_line, line_with, lines_by, node_line, sparse_numbers}
 use Rattle.bz_cert.specs.CertFaults.{BreaksTree, IsIn, IsIndex, IsWhole, Passes, Standing, alternate, behind_list, list_indexes, lists_indexes, words_behind, words_of_block, words_of_cuts}
 use Rattle.bz_cert.specs.CertPhases.{start}

@@ -4,4 +4,6 @@ pub mod CertPhases
 pub mod CertReading
 pub mod CertText
 pub mod CertWriting
+pub mod Fits
+pub mod Passing
 pub mod Shapes

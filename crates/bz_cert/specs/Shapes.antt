@@ -4,8 +4,9 @@ use Rattle.std.specs.List.{AllByRecursion}
 use Rattle.bz_algebra.specs.Numbers.{IsNarrow}
 use Rattle.bz_model.specs.declared.Parts.{Parts}
 use Rattle.bz_cut.specs.declared.Cut.{Cut}
-use Rattle.bz_tree.specs.declared.Leaf.{Leaf}
+use Rattle.bz_cut.specs.Narrow.{IsNarrowCut}
 use Rattle.bz_tree.specs.declared.TreeNode.{TreeNode}
+use Rattle.bz_tree.specs.Narrow.{IsNarrowLeaf}
 use Rattle.bz_tree.specs.Trees.{Tree, IsTreeOf}
 use Rattle.bz_cert.specs.declared.records.Certificate.{Certificate}
 use Rattle.bz_cert.specs.declared.records.Verdict.{Verdict}
@@ -17,20 +18,6 @@ pub record AreNarrowParts (parts : Parts) : Type 0 where
   pub x : AllByRecursion IsNarrow parts.master.x
   pub eta : AllByRecursion IsNarrow parts.master.eta
   pub blocks : AllByRecursion (λ block. IsNarrow block.times × AllByRecursion IsNarrow block.y) parts.blocks
-
--- no number of the cut is wide
-pub record IsNarrowCut (cut : Cut) : Type 0 where
-  pub p0 : IsNarrow cut.p0
-  pub beta : IsNarrow cut.beta
-  pub gcd : IsNarrow cut.gcd
-  pub alpha : AllByRecursion (λ e. IsNarrow e.1) cut.alpha
-  pub mu : AllByRecursion (λ e. IsNarrow e.1) cut.mu
-
--- no number of the leaf is wide
-pub record IsNarrowLeaf (leaf : Leaf) : Type 0 where
-  pub delta : IsNarrow leaf.delta
-  pub bound : IsNarrow leaf.bound
-  pub lambda : AllByRecursion (λ e. IsNarrow e.1) leaf.lambda
 
 -- no number of the node is wide
 abbrev pub IsNarrowNode : TreeNode → Type 0

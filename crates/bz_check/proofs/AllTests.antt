@@ -7,27 +7,33 @@ use Rattle.bz_model.specs.declared.Model.{Model}
 use Rattle.bz_model.specs.declared.Parts.{Parts}
 use Rattle.bz_model.specs.Parting.{integers_of}
 use Rattle.bz_model.specs.Points.{objective, IsInfeasible, IsOptimal, IsUnbounded}
-use Rattle.bz_cut.specs.Tests.{AllHold, IsFirstFault, Test, each_of, test}
-use Rattle.bz_cut.proofs.TestLemmas.{all_behind, all_front, all_joined, none_where_all, one_fault}
+use Rattle.bz_first.specs.Tests.{AllHold, IsFirstFault, Test, each_of, test}
+use Rattle.bz_first.proofs.TestLemmas.{all_behind, all_front, all_joined, none_where_all, one_fault}
 use Rattle.bz_tree.specs.declared.Leaf.{Leaf}
 use Rattle.bz_tree.specs.Boxes.{Box, IsRootBox}
 use Rattle.bz_tree.specs.Trees.{EachLeaf, HoldsOver, IsEmpty, IsTreeOf, Reaches, Tree}
 use Rattle.bz_tree.proofs.OneTree.{tree_of_nodes}
-use Rattle.bz_pass.specs.Laws.{IsDecomposed}
-use Rattle.bz_pass.specs.PartPoints.{HasPointShape, HasShape, IntegerHolds, IsPointOf}
-use Rattle.bz_pass.specs.Verdicts.{PassesInfeasible, PassesOptimal, PassesUnbounded, objective_of}
+use Rattle.bz_model.specs.Decomposed.{IsDecomposed}
+use Rattle.bz_model.specs.PartPoints.{HasPointShape, HasShape, IsPointOf}
+use Rattle.bz_tree.specs.Integers.{IntegerHolds}
+use Rattle.bz_tree.specs.Verdicts.{PassesInfeasible, PassesOptimal, PassesUnbounded}
+use Rattle.bz_model.specs.Stated.{objective_of}
 use Rattle.bz_pass.proofs.Judging.{some_point, tree_optimal, tree_refutes}
 use Rattle.bz_pass.proofs.Rays.{ray_unbounded}
 use Rattle.bz_cert.specs.declared.Certificate.{Certificate}
 use Rattle.bz_cert.specs.declared.Verdict.{Verdict}
 use Rattle.bz_cert.specs.declared.Verdict.TheVariants.{Optimal, Infeasible, Unbounded}
-use Rattle.bz_check.specs.declared.faults.CheckFault.{CheckFault}
-use Rattle.bz_check.specs.declared.faults.CheckFault.TheVariants as fault
-use Rattle.bz_check.specs.CheckTests.{Tests, check_tests, cost_tests, cuts_tests, infeasible_tests, optimal_tests, point_tests, ray_tests, tests_as, tree_tests, unbounded_tests, value_tests, HasTree, IsCheckFault}
-use Rattle.bz_check.specs.Fits.{Fits, FitsAs, FitsBound, FitsOptimal, FitsTree, FitsUnbounded}
-use Rattle.bz_check.specs.Passing.{Passes, PassesAs}
-use Rattle.bz_check.proofs.AllTestsPoints.{PointHolds, costs_fit, costs_tested, costs_told, point_fits, point_tested, point_told, ray_cost_fits, ray_rows_fit, ray_tested, ray_told, rows_of_blocks}
-use Rattle.bz_check.proofs.AllTestsRoots.{one_root}
+use Rattle.bz_judge.specs.declared.CheckFault.{CheckFault}
+use Rattle.bz_judge.specs.declared.CheckFault.TheVariants as fault
+use Rattle.bz_judge.specs.PointTests.{Tests, point_tests}
+use Rattle.bz_check.specs.CheckTests.{check_tests, cuts_tests, infeasible_tests, optimal_tests, tests_as, tree_tests, unbounded_tests, HasTree, IsCheckFault}
+use Rattle.bz_judge.specs.ValueTests.{cost_tests, value_tests}
+use Rattle.bz_judge.specs.RayTests.{ray_tests}
+use Rattle.bz_cert.specs.Fits.{Fits, FitsAs, FitsBound, FitsOptimal, FitsUnbounded}
+use Rattle.bz_tree.specs.TreeFits.{FitsTree}
+use Rattle.bz_cert.specs.Passing.{Passes, PassesAs}
+use Rattle.bz_judge.proofs.PointsTold.{PointHolds, costs_fit, costs_tested, costs_told, point_fits, point_tested, point_told, ray_cost_fits, ray_rows_fit, ray_tested, ray_told, rows_of_blocks}
+use Rattle.bz_tree.proofs.OneRoot.{one_root}
 use Rattle.bz_check.proofs.AllTestsTrees.{cuts_fit, cuts_tested, cuts_told, leaves_told, tree_fits, tree_tested, tree_told}
 
 -- ---- an optimum
@@ -252,18 +258,6 @@ fault_is_one m part c f g d h k =
 pub fault_fails : (m : Model) (part : List ℕ) (c : Certificate) (f : CheckFault) → IsDecomposed m part → IsCheckFault m part c f → (Passes m part c × Fits m part c) → ⊥
 fault_fails m part c f d h g = none_where_all (check_tests m part h.root h.tree c) f ((tests_tell m part h.root h.tree c d h.is_root h.is_tree).1 g) h.first
 
--- tests of which none is the first that fails don't fail together
-faultless : {F : Type 0} (tests : List (Test F)) → ((f : F) → IsFirstFault tests f → ⊥) → (AllHold tests → ⊥) → ⊥
-faultless [] none fail = fail tt
-faultless (t ∷ ts) none fail =
-    none t.answer (inl ((λ holds. faultless ts (λ f first. none f (inr (holds, first))) (λ hold. fail (holds, hold))), refl))
-
-pub faultless_passes : (m : Model) (part : List ℕ) (root : Box) (tree : Tree) (c : Certificate) → IsDecomposed m part → IsRootBox m root → HasTree c c.verdict tree → ((f : CheckFault) → IsCheckFault m part c f → ⊥) → ((Passes m part c × Fits m part c) → ⊥) → ⊥
-faultless_passes m part root tree c d r t none fail =
-    faultless (check_tests m part root tree c)
-    (λ f first. none f (record { root = root; is_root = r; tree = tree; is_tree = t; first = first }))
-    (λ hold. fail ((tests_tell m part root tree c d r t).0 hold))
-
 -- ---- what it proves
 pub optimal_means : (m : Model) (part : List ℕ) (c : Certificate) (parts : Parts) (p : List ℤ) (q : ℤ) → IsDecomposed m part → Passes m part c → c.verdict ≡ Optimal → c.parts ≡ Some parts → IsPointOf m part parts p q → IsOptimal m p q × IsSameNumber (objective m p q) (objective_of m c.value parts.master.den)
 optimal_means m part c parts p q d h v e = tree_optimal m part parts c.value c.cuts c.tree p q d (rw (v, e) at h.as_its_verdict)
@@ -273,7 +267,7 @@ has_point m part c d h v = of_parts c.parts refl (rw v at h.as_its_verdict)
   where
     of_parts : (parts : Option Parts) → c.parts ≡ parts → PassesAs m part c Optimal parts → (parts' : Parts) × (c.parts ≡ Some parts') × (p : List ℤ) × (q : ℤ) × IsPointOf m part parts' p q
     of_parts (Some parts) e h =
-        let s : HasPointShape m part parts = record { den = h.shape.den; x = h.shape.x; blocks = h.shape.blocks; each = h.shape.each } in
+        let s : HasPointShape m part parts = h.shape.point in
         let point = some_point m part parts d s in
         (parts, e, point.0, point.1, point.2)
     of_parts None e h = absurd h

@@ -3,17 +3,20 @@ use Rattle.std.proofs.Common.{◌≡◌, refl, sym, ◌∙◌, ap, subst, ℕ, s
 use Rattle.std.specs.List.{flat_map}
 use Rattle.bz_model.specs.declared.Model.{Model}
 use Rattle.bz_cut.specs.declared.Cut.{Cut}
-use Rattle.bz_cut.specs.Tests.{AllHold, IsFirstFault, test}
-use Rattle.bz_cut.proofs.TestLemmas.{all_joined, fault_behind, fault_in_front}
+use Rattle.bz_first.specs.Tests.{AllHold, IsFirstFault, test}
+use Rattle.bz_first.proofs.TestLemmas.{all_joined, fault_behind, fault_in_front}
 use Rattle.bz_tree.specs.declared.Leaf.{Leaf}
 use Rattle.bz_tree.specs.declared.TreeNode.{TreeNode}
 use Rattle.bz_tree.specs.Boxes.{Box}
 use Rattle.bz_tree.specs.Leaves.{sides_of}
 use Rattle.bz_tree.specs.Trees.{IsSplitOf, IsTreeOf, Tree, preorder, with_lower, with_upper}
-use Rattle.bz_check.specs.declared.faults.CheckFault.{CheckFault}
-use Rattle.bz_check.specs.declared.faults.CheckFault.TheVariants as fault
+use Rattle.bz_judge.specs.declared.CheckFault.{CheckFault}
+use Rattle.bz_judge.specs.declared.CheckFault.TheVariants as fault
 use Rattle.bz_check.specs.declared.open_splits.Frame.{Frame}
-use Rattle.bz_check.specs.CheckTests.{Tests, integer_at, leaf_tests, tree_tests}
+use Rattle.bz_judge.specs.PointTests.{Tests}
+use Rattle.bz_tree.specs.Integers.{integer_at}
+use Rattle.bz_check.specs.CheckTests.{tip_tests}
+use Rattle.bz_check.specs.CheckTests.{tree_tests}
 use Rattle.bz_check.specs.Walks.{Leads, Stands, forest_tests, pending}
 
 -- ---- tests that tell what others do
@@ -79,7 +82,7 @@ record LeafFront (m : Model) (part : List ℕ) (cuts : List Cut) (Bounds : Leaf 
   behind : List Tree
   count : length behind ≡ length (pending frames box)
   are_nodes : rest ≡ flat_map preorder behind
-  leads : Leads (leaf_tests m part Bounds (sides_of m part box cuts) node leaf ++ forest_tests m part cuts Bounds (node + 1) (pending frames box) behind) (tree_tests m part cuts Bounds root 0 tree)
+  leads : Leads (tip_tests m part Bounds (sides_of m part box cuts) node leaf ++ forest_tests m part cuts Bounds (node + 1) (pending frames box) behind) (tree_tests m part cuts Bounds root 0 tree)
 
 leaf_front_of : (m : Model) (part : List ℕ) (cuts : List Cut) (Bounds : Leaf → Type 0) (root : Box) (tree : Tree) (node : ℕ) (box : Box) (frames : List Frame) (leaf : Leaf) (rest : List TreeNode) (here : Tree) (behind : List Tree) → length behind ≡ length (pending frames box) → TreeNode.Leaf leaf ∷ rest ≡ preorder here ++ flat_map preorder behind → Leads (tree_tests m part cuts Bounds box node here ++ forest_tests m part cuts Bounds (node + length (preorder here)) (pending frames box) behind) (tree_tests m part cuts Bounds root 0 tree) → LeafFront m part cuts Bounds root tree node box frames leaf rest
 leaf_front_of m part cuts Bounds root tree node box frames leaf rest (Tree.tip end) behind l e h =
@@ -88,7 +91,7 @@ leaf_front_of m part cuts Bounds root tree node box frames leaf rest (Tree.tip e
       behind = behind;
       count = l;
       are_nodes = cc;
-      leads = subst (λ (x : Leaf). Leads (leaf_tests m part Bounds (sides_of m part box cuts) node x ++ forest_tests m part cuts Bounds (node + 1) (pending frames box) behind) (tree_tests m part cuts Bounds root 0 tree)) same h;
+      leads = subst (λ (x : Leaf). Leads (tip_tests m part Bounds (sides_of m part box cuts) node x ++ forest_tests m part cuts Bounds (node + 1) (pending frames box) behind) (tree_tests m part cuts Bounds root 0 tree)) same h;
     }
 leaf_front_of m part cuts Bounds root tree node box frames leaf rest (Tree.fork p l r below above) behind n e h = absurd cc
 
@@ -97,12 +100,12 @@ leaf_front m part cuts Bounds root tree node box frames leaf rest s =
     let f = front m part cuts Bounds root tree node box frames (TreeNode.Leaf leaf) rest s in
     leaf_front_of m part cuts Bounds root tree node box frames leaf rest f.here f.behind f.count f.are_nodes f.leads
 
-pub leaf_fault : (m : Model) (part : List ℕ) (cuts : List Cut) (Bounds : Leaf → Type 0) (root : Box) (tree : Tree) (node : ℕ) (box : Box) (frames : List Frame) (leaf : Leaf) (rest : List TreeNode) (f : CheckFault) → Stands m part cuts Bounds root tree node box frames (TreeNode.Leaf leaf ∷ rest) → IsFirstFault (leaf_tests m part Bounds (sides_of m part box cuts) node leaf) f → IsFirstFault (tree_tests m part cuts Bounds root 0 tree) f
+pub leaf_fault : (m : Model) (part : List ℕ) (cuts : List Cut) (Bounds : Leaf → Type 0) (root : Box) (tree : Tree) (node : ℕ) (box : Box) (frames : List Frame) (leaf : Leaf) (rest : List TreeNode) (f : CheckFault) → Stands m part cuts Bounds root tree node box frames (TreeNode.Leaf leaf ∷ rest) → IsFirstFault (tip_tests m part Bounds (sides_of m part box cuts) node leaf) f → IsFirstFault (tree_tests m part cuts Bounds root 0 tree) f
 leaf_fault m part cuts Bounds root tree node box frames leaf rest f s h =
     let g = leaf_front m part cuts Bounds root tree node box frames leaf rest s in
-    g.leads.first f (fault_in_front (leaf_tests m part Bounds (sides_of m part box cuts) node leaf) (forest_tests m part cuts Bounds (node + 1) (pending frames box) g.behind) f h)
+    g.leads.first f (fault_in_front (tip_tests m part Bounds (sides_of m part box cuts) node leaf) (forest_tests m part cuts Bounds (node + 1) (pending frames box) g.behind) f h)
 
-pub leaf_done : (m : Model) (part : List ℕ) (cuts : List Cut) (Bounds : Leaf → Type 0) (root : Box) (tree : Tree) (node : ℕ) (box box' : Box) (frames frames' : List Frame) (leaf : Leaf) (rest : List TreeNode) → Stands m part cuts Bounds root tree node box frames (TreeNode.Leaf leaf ∷ rest) → AllHold (leaf_tests m part Bounds (sides_of m part box cuts) node leaf) → (pending frames box ≡ []) ⊎ (pending frames box ≡ box' ∷ pending frames' box') → Stands m part cuts Bounds root tree (node + 1) box' frames' rest
+pub leaf_done : (m : Model) (part : List ℕ) (cuts : List Cut) (Bounds : Leaf → Type 0) (root : Box) (tree : Tree) (node : ℕ) (box box' : Box) (frames frames' : List Frame) (leaf : Leaf) (rest : List TreeNode) → Stands m part cuts Bounds root tree node box frames (TreeNode.Leaf leaf ∷ rest) → AllHold (tip_tests m part Bounds (sides_of m part box cuts) node leaf) → (pending frames box ≡ []) ⊎ (pending frames box ≡ box' ∷ pending frames' box') → Stands m part cuts Bounds root tree (node + 1) box' frames' rest
 leaf_done m part cuts Bounds root tree node box box' frames frames' leaf rest s h at =
     let g = leaf_front m part cuts Bounds root tree node box frames leaf rest s in
     record {
@@ -111,7 +114,7 @@ leaf_done m part cuts Bounds root tree node box box' frames frames' leaf rest s 
       trees = g.behind;
       count = g.count;
       nodes = g.are_nodes;
-      leads = leads_past (leaf_tests m part Bounds (sides_of m part box cuts) node leaf) (forest_tests m part cuts Bounds (node + 1) (pending frames box) g.behind) (tree_tests m part cuts Bounds root 0 tree) h g.leads;
+      leads = leads_past (tip_tests m part Bounds (sides_of m part box cuts) node leaf) (forest_tests m part cuts Bounds (node + 1) (pending frames box) g.behind) (tree_tests m part cuts Bounds root 0 tree) h g.leads;
     }
 
 -- ---- a split

@@ -11,12 +11,11 @@ use Rattle.bz_model.specs.declared.Column.{Column}
 use Rattle.bz_model.specs.declared.Model.{Model}
 use Rattle.bz_model.specs.Parting.{integers_of, position_of}
 use Rattle.std.specs.Option.{ok_or}
-use Rattle.bz_cut.specs.Tests.{Judges, test}
+use Rattle.bz_first.specs.Tests.{Judges, test}
 use Rattle.bz_tree.specs.Trees.{IsSplitOf}
-use Rattle.bz_check.specs.declared.faults.CheckFault.{CheckFault}
-use Rattle.bz_check.specs.declared.faults.CheckFault.TheVariants as fault
-use Rattle.bz_check.specs.CheckTests.{integer_at}
-use Rattle.bz_check.specs.LeafSides.{positions_of}
+use Rattle.bz_judge.specs.declared.CheckFault.{CheckFault}
+use Rattle.bz_judge.specs.declared.CheckFault.TheVariants as fault
+use Rattle.bz_tree.specs.Integers.{integer_at, positions_of}
 
 pub place_mapped : {X : Type 0} (f : X → ℕ) (xs : List X) (p : ℕ) → position_or_len (λ n. n == p) (map f xs) ≡ position_or_len (λ x. f x == p) xs
 place_mapped f [] p = refl

@@ -2,7 +2,7 @@
 use Rattle.std.specs.Prelude.{pos, ◌≡◌, ◌⊎◌, [], Result, Ok, Err, IfErr, IfOk}
 use Rattle.std.proofs.Common.{ap, inl, inr, refl}
 use Rattle.bz_model.specs.Splits.{Decomposition, IsSplit}
-use Rattle.bz_cut.specs.Tests.{JudgesUnless}
+use Rattle.bz_first.specs.Tests.{JudgesUnless}
 use Rattle.bz_tree.specs.declared.Leaf.{Leaf}
 use Rattle.bz_tree.specs.Boxes.{Box, IsRootBox}
 use Rattle.bz_tree.specs.Trees.{Tree}
@@ -10,14 +10,14 @@ use Rattle.bz_cert.specs.declared.Certificate.{Certificate}
 use Rattle.bz_cert.specs.declared.Verdict.{Verdict}
 use Rattle.bz_cert.specs.declared.Verdict.TheVariants.{Optimal, Infeasible, Unbounded}
 use Rattle.bz_cert.specs.Shapes.{HasTreeOf, IsShaped}
-use Rattle.bz_check.specs.declared.faults.CheckFault.{CheckFault}
-use Rattle.bz_check.specs.declared.faults.CheckFault.TheVariants as fault
+use Rattle.bz_judge.specs.declared.CheckFault.{CheckFault}
+use Rattle.bz_judge.specs.declared.CheckFault.TheVariants as fault
 use Rattle.bz_check.specs.Checking.{IsDue, PassesTests, Settles}
 use Rattle.bz_check.specs.CheckTests.{HasTree, IsCheckFault, check_tests}
-use Rattle.bz_check.specs.Fits.{Fits}
-use Rattle.bz_check.specs.Passing.{Passes}
+use Rattle.bz_cert.specs.Fits.{Fits}
+use Rattle.bz_cert.specs.Passing.{Passes}
 use Rattle.bz_check.proofs.AllTests.{fault_fails, fault_is_one, tests_tell}
-use Rattle.bz_check.proofs.CostSums.{decomposed}
+use Rattle.bz_model.proofs.InnerCosts.{decomposed}
 
 tree_of : (c : Certificate) (verdict : Verdict) → HasTreeOf verdict c.tree → (tree : Tree) × HasTree c verdict tree
 tree_of c Optimal h = (h.tree, h.is_tree)

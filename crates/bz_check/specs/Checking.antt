@@ -2,12 +2,12 @@
 use Rattle.std.specs.Prelude.{ℕ, ◌≡◌, ◌⊎◌, List, Result, Ok, Err}
 use Rattle.bz_model.specs.declared.Model.{Model}
 use Rattle.bz_model.specs.Splits.{Decomposition, IsSplit}
-use Rattle.bz_cut.specs.Tests.{AllHold}
+use Rattle.bz_first.specs.Tests.{AllHold}
 use Rattle.bz_tree.specs.Boxes.{Box, IsRootBox}
 use Rattle.bz_tree.specs.Trees.{Tree}
 use Rattle.bz_cert.specs.declared.Certificate.{Certificate}
-use Rattle.bz_check.specs.declared.faults.CheckFault.{CheckFault}
-use Rattle.bz_check.specs.declared.faults.CheckFault.TheVariants as fault
+use Rattle.bz_judge.specs.declared.CheckFault.{CheckFault}
+use Rattle.bz_judge.specs.declared.CheckFault.TheVariants as fault
 use Rattle.bz_check.specs.CheckTests.{HasTree, IsCheckFault, check_tests}
 
 -- all tests of the certificate hold, over the box of the whole model and the tree of its nodes

@@ -1,14 +1,5 @@
-pub mod BlockShapes
 pub mod CheckTests
 pub mod Checking
-pub mod Fits
-pub mod IntegerTests
 pub mod Laws
-pub mod LeafSides
-pub mod LeftSides
-pub mod Passing
-pub mod Stated
-pub mod Sums
 pub mod TreeGoals
 pub mod Walks
-pub mod WideLists

@@ -1,12 +1,9 @@
 -- What the leaves of a tree are to show, as the tests say it.
-use Rattle.std.specs.Prelude.{ℕ, pos, ◌≡◌, ◌<ℤ◌, ◌≤ℤ◌, [], ◌∷◌}
-use Rattle.bz_cut.specs.Tests.{test}
+use Rattle.std.specs.Prelude.{pos, ◌<ℤ◌}
 use Rattle.bz_tree.specs.declared.Leaf.{Leaf}
 use Rattle.bz_tree.specs.Trees.{IsEmpty, Reaches}
-use Rattle.bz_check.specs.declared.faults.CheckFault.TheVariants as fault
 use Rattle.bz_check.specs.declared.tree_goals.Goal.{Goal}
 use Rattle.bz_check.specs.declared.tree_goals.Goal.TheVariants as of_goal
-use Rattle.bz_check.specs.CheckTests.{Tests}
 
 -- what the goal asks of a leaf
 abbrev pub bounds_of : Goal → Leaf → Type 0
@@ -17,11 +14,3 @@ bounds_of of_goal.Empty = IsEmpty
 abbrev pub HasPositiveDen : Goal → Type 0
 HasPositiveDen (of_goal.Reaches value den) = pos 0 <ℤ den
 HasPositiveDen of_goal.Empty = Unit {0}
-
--- the tests of the signs of the leaf at a node, and that it is as `Bounds` says
-abbrev pub leaf_sign_tests : (Leaf → Type 0) → ℕ → Leaf → Tests
-leaf_sign_tests Bounds node leaf =
-    test (fault.Leaf node) (pos 0 ≤ℤ leaf.delta)
-    ∷ test (fault.Leaf node) (leaf.delta ≡ pos 0 → pos 0 <ℤ leaf.bound)
-    ∷ test (fault.Leaf node) (Bounds leaf)
-    ∷ []

@@ -5,17 +5,18 @@ use Rattle.bz_algebra.specs.Numbers.{IsNarrow}
 use Rattle.bz_model.specs.declared.Model.{Model}
 use Rattle.bz_model.specs.Points.{coordinate}
 use Rattle.bz_cut.specs.declared.Cut.{Cut}
-use Rattle.bz_cut.specs.Tests.{AllHold, IsFirstFault}
+use Rattle.bz_first.specs.Tests.{AllHold, IsFirstFault}
 use Rattle.bz_tree.specs.declared.Leaf.{Leaf}
 use Rattle.bz_tree.specs.declared.TreeNode.{TreeNode}
 use Rattle.bz_tree.specs.Boxes.{Box}
 use Rattle.bz_tree.specs.Trees.{Tree, preorder, with_lower, with_upper}
-use Rattle.bz_check.specs.declared.faults.CheckFault.{CheckFault}
-use Rattle.bz_check.specs.declared.faults.CheckFault.TheVariants as fault
+use Rattle.bz_judge.specs.declared.CheckFault.{CheckFault}
+use Rattle.bz_judge.specs.declared.CheckFault.TheVariants as fault
 use Rattle.bz_check.specs.declared.open_splits.Frame.{Frame}
 use Rattle.bz_check.specs.declared.open_splits.Frame.TheVariants as side
 use Rattle.bz_check.specs.declared.open_splits.Walk.{Walk}
-use Rattle.bz_check.specs.CheckTests.{Tests, tree_tests}
+use Rattle.bz_judge.specs.PointTests.{Tests}
+use Rattle.bz_check.specs.CheckTests.{tree_tests}
 
 -- the box of the next node
 abbrev pub box_in : Walk → Box

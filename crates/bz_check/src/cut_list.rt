@@ -2,11 +2,11 @@
 ghost use Rattle.std.specs.Prelude.{◌≤◌, length};
 ghost use Rattle.std.specs.List.{enumerate_from};
 ghost use Rattle.bz_cut.specs.CutTests.{cut_tests};
-ghost use Rattle.bz_cut.specs.Tests.{Judges, answered};
+ghost use Rattle.bz_first.specs.Tests.{Judges, answered};
 ghost use Rattle.bz_check.specs.CheckTests.{cuts_tests, fault_of_cut};
 
-use crate::faults::{CUT_SUMS, CheckFault, wide_in};
 use bz_cut::{Cut, CutFault, judge_cut};
+use bz_judge::{CUT_SUMS, CheckFault, wide_in};
 use bz_model::Split;
 
 /// Tests cut `i`.

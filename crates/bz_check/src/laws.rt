@@ -6,7 +6,7 @@ pub fn all_tests_tell()
     ensures { AllTestsTell }
 {}
 
-/// A certificate has one fault at most, and none where it passes and fits; one that has none passes and fits.
+/// A certificate has one fault at most, and none exactly where it passes and fits.
 pub fn check_faults_are_unique()
     ensures { CheckFaultsAreUnique }
 {}

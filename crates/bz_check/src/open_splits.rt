@@ -33,16 +33,16 @@ pub struct Walk {
 }
 
 impl Walk {
-    /// The walk from the root. It takes memory for the box.
-    pub fn new(alloc: Global, root: &NodeBox) -> Result<Walk, AllocError>
-        ensures root { IfOk result (λ walk. box_in walk ≡ box_of root.now) }
-        ensures frames { IfOk result (λ walk. walk.frames.items ≡ []) }
+    /// The walk from the root. It takes no memory.
+    pub fn new(alloc: Global, root: NodeBox) -> Walk
+        ensures root { box_in result ≡ box_of root }
+        ensures frames { result.frames.items ≡ [] }
     {
-        Ok(Walk {
-            lower: Vec::from_slice(alloc, root.lower.as_slice())?,
-            upper: Vec::from_slice(alloc, root.upper.as_slice())?,
+        Walk {
+            lower: root.lower.into_vec(),
+            upper: root.upper.into_vec(),
             frames: Vec::new(alloc),
-        })
+        }
     }
 }
 

@@ -2,13 +2,12 @@
 ghost use Rattle.std.specs.Prelude.{◌≡◌, ◌↔◌, ◌≤◌, pos, ◌<ℤ◌, [], ◌∷◌, IsTrue, length};
 ghost use Rattle.std.specs.List.{AllByRecursion, enumerate_from};
 ghost use Rattle.bz_model.specs.Parting.{blocks_of, width_of};
-ghost use Rattle.bz_cut.specs.Tests.{Judges, test};
-ghost use Rattle.bz_pass.specs.PartPoints.{HasPointShape, HasShape};
-ghost use Rattle.bz_check.specs.declared.faults.CheckFault.TheVariants.{Shape};
-ghost use Rattle.bz_check.specs.BlockShapes.{HasBlockShape};
+ghost use Rattle.bz_first.specs.Tests.{Judges, test};
+ghost use Rattle.bz_model.specs.PartPoints.{HasBlockShape, HasMasterShape, HasPointShape, HasShape};
+ghost use Rattle.bz_judge.specs.declared.CheckFault.TheVariants.{Shape};
 
-use crate::faults::CheckFault;
 use bz_cut::width;
+use bz_judge::CheckFault;
 use bz_model::{BlockPart, Master, Parts, Split};
 
 /// Whether the numbers of block `b` are as many as its columns, over a positive denominator.
@@ -35,7 +34,7 @@ fn blocks_have_shape(split: &Split, blocks: &[BlockPart]) -> bool
 
 /// Whether the master's numbers are as many as its columns, over a positive denominator.
 fn master_has_shape(split: &Split, master: &Master) -> bool
-    ensures { IsTrue result ↔ ((pos 0 <ℤ master.now.den) × (length master.now.x ≡ width_of split.now.part 0)) }
+    ensures { IsTrue result ↔ HasMasterShape split.now.part master.now }
 {
     0 < master.den && master.x.as_slice().len() == width(split, 0) as usize
 }

@@ -7,7 +7,9 @@ ghost use Rattle.std.specs.List.{AllByRecursion};
 ghost use Rattle.bz_algebra.specs.Numbers.{IsNarrow};
 ghost use Rattle.bz_model.specs.Worked.{AreWorkedColumns};
 ghost use Rattle.bz_cut.specs.Worked.{AreLinked};
-ghost use Rattle.bz_cert.specs.Shapes.{AreCuts, AreNarrowParts, AreNodes, IsNarrowCut, IsNarrowLeaf, IsShaped};
+ghost use Rattle.bz_cert.specs.Shapes.{AreCuts, AreNarrowParts, AreNodes, IsShaped};
+ghost use Rattle.bz_cut.specs.Narrow.{IsNarrowCut};
+ghost use Rattle.bz_tree.specs.Narrow.{IsNarrowLeaf};
 
 use crate::{CheckFault, check, stated_of};
 use bz_cert::{Certificate, Verdict};

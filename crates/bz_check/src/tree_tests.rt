@@ -5,17 +5,18 @@ ghost use Rattle.std.specs.Prelude.{IfOk};
 ghost use Rattle.std.specs.List.{AllByRecursion};
 ghost use Rattle.bz_algebra.specs.Numbers.{IsNarrow};
 ghost use Rattle.bz_num.specs.Row.{IsSparse};
-ghost use Rattle.bz_cert.specs.Shapes.{IsNarrowCut, IsNarrowNode};
+ghost use Rattle.bz_cut.specs.Narrow.{IsNarrowCut};
+ghost use Rattle.bz_cert.specs.Shapes.{IsNarrowNode};
 ghost use Rattle.bz_check.specs.TreeGoals.{HasPositiveDen};
 
-use crate::faults::CheckFault;
+use bz_judge::CheckFault;
 use crate::tests::{Of, split};
 use crate::tree_goals::Goal;
 use crate::tree_walk::judge_tree;
 use bz_cut::Cut;
 use bz_model::Split;
 use bz_num::{OutOfMemory, SparseRow};
-use bz_tree::{Leaf, TreeNode, root_box};
+use bz_tree::{Leaf, TreeNode, integer_positions, root_box};
 use std::alloc::Global;
 use std::test::Fail;
 
@@ -96,22 +97,44 @@ fn add(nodes: &mut Vec<TreeNode>, node: TreeNode) -> Result<(), OutOfMemory>
     nodes.push(node).map_err(|_| OutOfMemory)
 }
 
-/// A split of the column at a position and its two leaves: the one at most 0 adds the second cut, the one at least 1 the
-/// first. Where it is wrong, the first adds `x <= 0` once too seldom.
+/// The first leaf of a split.
+#[derive(Clone, Copy)]
+enum First {
+    /// It adds `x <= 0` four times and the second cut once.
+    Right,
+    /// It adds `x <= 0` once too seldom.
+    Wrong,
+    /// Its delta is -(2^127 - 1), and it adds nothing.
+    Negative,
+}
+
+/// A split of the column at a position and its two leaves: the first of the side at most 0, and the one of the side at
+/// least 1, which adds the first cut.
 #[derive(Clone, Copy)]
 struct Case {
     position: u32,
     left: i64,
     right: i64,
-    wrong: bool,
+    first: First,
 }
 
 const ONE: Case = Case {
     position: 0,
     left: 0,
     right: 1,
-    wrong: false,
+    first: First::Right,
 };
+
+/// The first leaf of a case.
+fn first_leaf(alloc: Global, first: First) -> Result<TreeNode, OutOfMemory>
+    ensures { IfOk result (λ node. IsNarrowNode node) }
+{
+    match first {
+        First::Right => leaf_of(alloc, &[(0, 4), (3, 1)], 1, 3),
+        First::Wrong => leaf_of(alloc, &[(0, 3), (3, 1)], 1, 3),
+        First::Negative => leaf_of(alloc, &[], -170141183460469231731687303715884105727, 0),
+    }
+}
 
 /// Adds the split and its leaves.
 fn add_case(alloc: Global, nodes: &mut Vec<TreeNode>, case: Case) -> Result<(), OutOfMemory>
@@ -119,12 +142,7 @@ fn add_case(alloc: Global, nodes: &mut Vec<TreeNode>, case: Case) -> Result<(), 
     ensures { IfOk result (λ _. AllByRecursion IsNarrowNode nodes.new.items) }
 {
     add(nodes, fork_at(case.position, case.left, case.right))?;
-    let first = if case.wrong {
-        leaf_of(alloc, &[(0, 3), (3, 1)], 1, 3)?
-    } else {
-        leaf_of(alloc, &[(0, 4), (3, 1)], 1, 3)?
-    };
-    add(nodes, first)?;
+    add(nodes, first_leaf(alloc, case.first)?)?;
     add(nodes, leaf_of(alloc, &[(1, 2), (2, 1)], 1, 2)?)
 }
 
@@ -190,7 +208,16 @@ fn found(
     if nodes.len() > 65535 {
         return Err(OutOfMemory);
     }
-    Ok(judge_tree(alloc, split, cuts.as_slice(), &root, nodes.as_slice(), goal))
+    let positions = integer_positions(alloc, split)?;
+    Ok(judge_tree(
+        alloc,
+        split,
+        cuts.as_slice(),
+        root,
+        positions.as_slice(),
+        nodes.as_slice(),
+        goal,
+    ))
 }
 
 const TWO: Goal = Goal::Reaches { value: 2, den: 1 };
@@ -201,9 +228,20 @@ fn the_tree_of_the_second_example_holds_and_others_do_not(rt: HostRuntime) -> Re
     let table = [
         (ONE, Ok(()), "as it is"),
         (
-            Case { wrong: true, ..ONE },
+            Case {
+                first: First::Wrong,
+                ..ONE
+            },
             Err(CheckFault::Leaf { node: 1 }),
             "3 in place of 4",
+        ),
+        (
+            Case {
+                first: First::Negative,
+                ..ONE
+            },
+            Err(CheckFault::Leaf { node: 1 }),
+            "delta is tested before its product with the cost, which is wide",
         ),
         (
             Case { right: 2, ..ONE },
@@ -213,7 +251,7 @@ fn the_tree_of_the_second_example_holds_and_others_do_not(rt: HostRuntime) -> Re
         (
             Case {
                 right: 2,
-                wrong: true,
+                first: First::Wrong,
                 ..ONE
             },
             Err(CheckFault::Cover { node: 0 }),
@@ -269,8 +307,12 @@ fn bounds_are_compared_exactly(rt: HostRuntime) -> Result<(), Fail> {
 fn ends_are_put_back_in_deep_trees(rt: HostRuntime) -> Result<(), Fail> {
     let split = split(rt.alloc(), Of::One, 2)?;
     assert_eq!(rt; found(rt.alloc(), &split, 1000, ONE, TWO)?, Ok(()));
+    let wrong = Case {
+        first: First::Wrong,
+        ..ONE
+    };
     assert_eq!(rt;
-        found(rt.alloc(), &split, 1000, Case { wrong: true, ..ONE }, TWO)?,
+        found(rt.alloc(), &split, 1000, wrong, TWO)?,
         Err(CheckFault::Leaf { node: 3001 }),
         "behind 1,000 splits, 1,000 splits with a leaf each, and one split"
     );

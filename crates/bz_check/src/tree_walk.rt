@@ -4,28 +4,28 @@ ghost use Rattle.std.specs.Prelude.{◌≡◌, ◌↔◌, ◌<◌, ◌≤◌, �
 ghost use Rattle.std.specs.List.{AllByRecursion, position_or_len};
 ghost use Rattle.bz_algebra.specs.Numbers.{IsNarrow};
 ghost use Rattle.bz_model.specs.declared.Model.{Model};
-ghost use Rattle.bz_cut.specs.Tests.{Judges, JudgesUnless, test};
+ghost use Rattle.bz_first.specs.Tests.{Judges, JudgesUnless, test};
 ghost use Rattle.bz_tree.specs.declared.TreeNode.{TreeNode};
 ghost use Rattle.bz_tree.specs.Boxes.{Box, IsRootBox};
 ghost use Rattle.bz_tree.specs.Ends.{IsNarrowBox, box_of};
 ghost use Rattle.bz_tree.specs.Leaves.{sides_of};
 ghost use Rattle.bz_tree.specs.Trees.{IsSplitOf, IsTreeOf, Tree};
-ghost use Rattle.bz_cert.specs.Shapes.{IsNarrowCut, IsNarrowLeaf, IsNarrowNode};
-ghost use Rattle.bz_check.specs.declared.faults.CheckFault.TheVariants as fault;
-ghost use Rattle.bz_check.specs.CheckTests.{integer_at, leaf_tests, tree_tests};
-ghost use Rattle.bz_check.specs.LeafSides.{positions_of};
+ghost use Rattle.bz_cut.specs.Narrow.{IsNarrowCut};
+ghost use Rattle.bz_tree.specs.Narrow.{IsNarrowLeaf};
+ghost use Rattle.bz_cert.specs.Shapes.{IsNarrowNode};
+ghost use Rattle.bz_judge.specs.declared.CheckFault.TheVariants as fault;
+ghost use Rattle.bz_tree.specs.Integers.{integer_at, positions_of};
+ghost use Rattle.bz_check.specs.CheckTests.{tip_tests};
+ghost use Rattle.bz_check.specs.CheckTests.{tree_tests};
 ghost use Rattle.bz_check.specs.TreeGoals.{HasPositiveDen, bounds_of};
 ghost use Rattle.bz_check.specs.Walks.{Enters, GoesOn, IsWalk, Stands, Visits, box_in, open_in};
 
-use crate::faults::CheckFault;
-use crate::integer_columns::{integer_column, integer_positions};
-use crate::leaf_check::judge_leaf;
-use crate::leaf_sides::Sides;
 use crate::open_splits::{Walk, enter, go_on};
-use crate::tree_goals::Goal;
+use crate::tree_goals::{Goal, judge_goal};
 use bz_cut::Cut;
+use bz_judge::{CheckFault, judge_leaf};
 use bz_model::Split;
-use bz_tree::{Leaf, NodeBox, TreeNode};
+use bz_tree::{Leaf, NodeBox, Sides, TreeNode, integer_column};
 use std::alloc::Global;
 
 /// Whether the second number is the next after the first. The greatest number has none.
@@ -91,7 +91,7 @@ fn judge_leaf_here(trial: &Trial<'_>, node: u32, leaf: &Leaf, walk: &Walk) -> Re
     requires walk { IsWalk (length trial.now.positions.now) walk.now }
     requires leaf { IsNarrowLeaf leaf.now }
     requires goal { HasPositiveDen trial.now.goal }
-    ensures { Judges (leaf_tests trial.now.split.now.model trial.now.split.now.part (bounds_of trial.now.goal) (sides_of trial.now.split.now.model trial.now.split.now.part (box_in walk.now) trial.now.cuts.now) node leaf.now) result }
+    ensures { Judges (tip_tests trial.now.split.now.model trial.now.split.now.part (bounds_of trial.now.goal) (sides_of trial.now.split.now.model trial.now.split.now.part (box_in walk.now) trial.now.cuts.now) node leaf.now) result }
 {
     let sides = Sides {
         rows: trial.split.inequalities(0),
@@ -100,7 +100,8 @@ fn judge_leaf_here(trial: &Trial<'_>, node: u32, leaf: &Leaf, walk: &Walk) -> Re
         upper: walk.upper.as_slice(),
         cuts: trial.cuts,
     };
-    judge_leaf(trial.split, &sides, trial.goal, node, leaf)
+    judge_leaf(trial.split, &sides, node, leaf)?;
+    judge_goal(trial.goal, node, leaf)
 }
 
 /// Tests a leaf, and goes on to the next tree that is to come.
@@ -108,7 +109,7 @@ fn visit_leaf(trial: &Trial<'_>, node: u32, leaf: &Leaf, walk: &mut Walk) -> Res
     requires walk { IsWalk (length trial.now.positions.now) walk.old }
     requires leaf { IsNarrowLeaf leaf.now }
     requires goal { HasPositiveDen trial.now.goal }
-    ensures judges { JudgesUnless fault.OutOfMemory (leaf_tests trial.now.split.now.model trial.now.split.now.part (bounds_of trial.now.goal) (sides_of trial.now.split.now.model trial.now.split.now.part (box_in walk.old) trial.now.cuts.now) node leaf.now) result }
+    ensures judges { JudgesUnless fault.OutOfMemory (tip_tests trial.now.split.now.model trial.now.split.now.part (bounds_of trial.now.goal) (sides_of trial.now.split.now.model trial.now.split.now.part (box_in walk.old) trial.now.cuts.now) node leaf.now) result }
     ensures next { IfOk result (λ _. GoesOn walk.old walk.new) }
     ensures kept { IfOk result (λ _. IsWalk (length trial.now.positions.now) walk.new) }
 {
@@ -136,32 +137,33 @@ fn visit(trial: &Trial<'_>, node: u32, entry: &TreeNode, walk: &mut Walk) -> Res
 }
 
 /// Whether each split of the tree is one of an integer column, and each leaf holds over its box and shows the goal: the
-/// first fault by the order of the nodes. The box is that of the whole model. It takes memory for a copy of the box, and
-/// a few words for each split that is open at once.
+/// first fault by the order of the nodes. The box is that of the whole model, and the positions are those of the integer
+/// columns in the master. It takes a few words for each split that is open at once.
 pub fn judge_tree(
     alloc: Global,
     split: &Split,
     cuts: &[Cut],
-    root: &NodeBox,
+    root: NodeBox,
+    positions: &[u32],
     nodes: &[TreeNode],
     goal: Goal,
 ) -> Result<(), CheckFault>
-    requires root { IsRootBox split.now.model (box_of root.now) }
-    requires narrow { IsNarrowBox root.now }
+    requires root { IsRootBox split.now.model (box_of root) }
+    requires narrow { IsNarrowBox root }
+    requires positions { positions.now ≡ positions_of split.now.model split.now.part }
     requires cuts { AllByRecursion IsNarrowCut cuts.now }
     requires nodes { AllByRecursion IsNarrowNode nodes.now }
     requires few { length nodes.now ≤ 65535 }
     requires goal { HasPositiveDen goal }
-    ensures { (tree : Tree) → IsTreeOf nodes.now tree → JudgesUnless fault.OutOfMemory (tree_tests split.now.model split.now.part cuts.now (bounds_of goal) (box_of root.now) 0 tree) result }
+    ensures { (tree : Tree) → IsTreeOf nodes.now tree → JudgesUnless fault.OutOfMemory (tree_tests split.now.model split.now.part cuts.now (bounds_of goal) (box_of root) 0 tree) result }
 {
-    let positions = integer_positions(alloc, split)?;
     let trial = Trial {
         split,
         cuts,
-        positions: positions.as_slice(),
+        positions,
         goal,
     };
-    let mut walk = Walk::new(alloc, root)?;
+    let mut walk = Walk::new(alloc, root);
     for (node, entry) in nodes.iter().enumerate() {
         visit(&trial, node as u32, entry, &mut walk)?;
     }

@@ -1,36 +1,33 @@
 //! The check of a whole certificate.
-ghost use Rattle.std.specs.Prelude.{◌≡◌, ◌<◌, ◌^◌, ◌++◌, [], ◌∷◌, ◌⊎◌, Ok, Err, IfErr, IfOk, length, map};
+ghost use Rattle.std.specs.Prelude.{◌≡◌, ◌<◌, ◌^◌, ◌++◌, [], ◌∷◌, ◌⊎◌, Ok, Err, IfErr, IfOk, length};
 ghost use Rattle.std.specs.List.{enumerate_from};
-ghost use Rattle.bz_model.specs.Parting.{integers_of, position_of};
 ghost use Rattle.bz_model.specs.Splits.{IsSplit};
-ghost use Rattle.bz_cut.specs.Tests.{Judges, JudgesUnless, each_of, test};
+ghost use Rattle.bz_first.specs.Tests.{Judges, JudgesUnless, each_of, test};
 ghost use Rattle.bz_tree.specs.Boxes.{IsRootBox};
 ghost use Rattle.bz_tree.specs.Ends.{IsNarrowBox, box_of};
+ghost use Rattle.bz_tree.specs.Integers.{positions_of};
 ghost use Rattle.bz_tree.specs.Trees.{IsTreeOf, Tree};
-ghost use Rattle.bz_pass.specs.PartPoints.{HasShape};
+ghost use Rattle.bz_model.specs.PartPoints.{HasShape};
 ghost use Rattle.bz_cert.specs.Shapes.{AreCuts, AreNodes, IsShaped};
-ghost use Rattle.bz_check.specs.declared.faults.CheckFault.{CheckFault};
-ghost use Rattle.bz_check.specs.declared.faults.CheckFault.TheVariants as fault;
-ghost use Rattle.bz_check.specs.CheckTests.{HasTree, IsCheckFault, check_tests, cost_tests, cuts_tests, infeasible_tests, optimal_tests, point_tests, tree_tests, unbounded_tests, value_tests};
+ghost use Rattle.bz_judge.specs.declared.CheckFault.{CheckFault};
+ghost use Rattle.bz_judge.specs.declared.CheckFault.TheVariants as fault;
+ghost use Rattle.bz_check.specs.CheckTests.{HasTree, IsCheckFault, check_tests, cuts_tests, infeasible_tests, optimal_tests, tree_tests, unbounded_tests};
+ghost use Rattle.bz_judge.specs.ValueTests.{cost_tests, value_tests};
+ghost use Rattle.bz_judge.specs.PointTests.{point_tests};
 ghost use Rattle.bz_check.specs.Checking.{IsDue, Settles};
-ghost use Rattle.bz_check.specs.Fits.{Fits};
-ghost use Rattle.bz_check.specs.Passing.{Passes};
+ghost use Rattle.bz_cert.specs.Fits.{Fits};
+ghost use Rattle.bz_cert.specs.Passing.{Passes};
 ghost use Rattle.bz_check.specs.TreeGoals.{HasPositiveDen, bounds_of};
 
-use crate::costs::judge_costs;
 use crate::cut_list::judge_cuts;
-use crate::faults::CheckFault;
-use crate::integer_columns::integer_positions;
-use crate::points::judge_point;
-use crate::ray::judge_ray;
 use crate::shape::{judge_ray_shape, judge_shape};
 use crate::tree_goals::Goal;
 use crate::tree_walk::judge_tree;
-use crate::value::judge_value;
 use bz_cert::{Certificate, Verdict};
 use bz_cut::Cut;
+use bz_judge::{CheckFault, judge_costs, judge_point, judge_ray, judge_value};
 use bz_model::{Parts, Split};
-use bz_tree::{NodeBox, TreeNode, root_box};
+use bz_tree::{NodeBox, TreeNode, integer_positions, root_box};
 use std::alloc::Global;
 
 /// Tests that the parts are a feasible point, and that its blocks cost at most their etas and the value is theirs with
@@ -43,7 +40,7 @@ fn judge_value_of_point(
     value: i128,
 ) -> Result<(), CheckFault>
     requires root { IsRootBox split.now.model (box_of root.now) }
-    requires positions { positions.now ≡ map (λ e. position_of split.now.part e.0) (integers_of split.now.model) }
+    requires positions { positions.now ≡ positions_of split.now.model split.now.part }
     ensures { Judges (test fault.Shape (HasShape split.now.model split.now.part parts.now) ∷ point_tests split.now.model split.now.part (box_of root.now) parts.now ++ each_of (cost_tests split.now.model split.now.part parts.now.master) (enumerate_from 1 parts.now.blocks) ++ value_tests split.now.model split.now.part parts.now.master value) result }
 {
     judge_shape(split, parts)?;
@@ -56,39 +53,41 @@ fn judge_value_of_point(
 fn judge_bound(
     alloc: Global,
     split: &Split,
-    root: &NodeBox,
+    root: NodeBox,
+    positions: &[u32],
     cuts: &[Cut],
     nodes: &[TreeNode],
     goal: Goal,
 ) -> Result<(), CheckFault>
-    requires root { IsRootBox split.now.model (box_of root.now) }
-    requires narrow { IsNarrowBox root.now }
+    requires root { IsRootBox split.now.model (box_of root) }
+    requires narrow { IsNarrowBox root }
+    requires positions { positions.now ≡ positions_of split.now.model split.now.part }
     requires cuts { AreCuts cuts.now }
     requires nodes { AreNodes nodes.now }
     requires goal { HasPositiveDen goal }
-    ensures { (tree : Tree) → IsTreeOf nodes.now tree → JudgesUnless fault.OutOfMemory (cuts_tests split.now.model split.now.part cuts.now ++ tree_tests split.now.model split.now.part cuts.now (bounds_of goal) (box_of root.now) 0 tree) result }
+    ensures { (tree : Tree) → IsTreeOf nodes.now tree → JudgesUnless fault.OutOfMemory (cuts_tests split.now.model split.now.part cuts.now ++ tree_tests split.now.model split.now.part cuts.now (bounds_of goal) (box_of root) 0 tree) result }
 {
     judge_cuts(split, cuts)?;
-    judge_tree(alloc, split, cuts, root, nodes, goal)
+    judge_tree(alloc, split, cuts, root, positions, nodes, goal)
 }
 
 /// Tests a certificate of an optimum. It takes memory.
 fn judge_optimal(
     alloc: Global,
     split: &Split,
-    root: &NodeBox,
+    root: NodeBox,
     positions: &[u32],
     parts: &Parts,
     c: &Certificate,
 ) -> Result<(), CheckFault>
-    requires root { IsRootBox split.now.model (box_of root.now) }
-    requires narrow { IsNarrowBox root.now }
-    requires positions { positions.now ≡ map (λ e. position_of split.now.part e.0) (integers_of split.now.model) }
+    requires root { IsRootBox split.now.model (box_of root) }
+    requires narrow { IsNarrowBox root }
+    requires positions { positions.now ≡ positions_of split.now.model split.now.part }
     requires cuts { AreCuts c.now.cuts }
     requires nodes { AreNodes c.now.tree }
-    ensures { (tree : Tree) → IsTreeOf c.now.tree tree → JudgesUnless fault.OutOfMemory (optimal_tests split.now.model split.now.part (box_of root.now) tree parts.now c.now) result }
+    ensures { (tree : Tree) → IsTreeOf c.now.tree tree → JudgesUnless fault.OutOfMemory (optimal_tests split.now.model split.now.part (box_of root) tree parts.now c.now) result }
 {
-    judge_value_of_point(split, root, positions, parts, c.value)?;
+    judge_value_of_point(split, &root, positions, parts, c.value)?;
     let goal = Goal::Reaches {
         value: c.value,
         den: parts.master.den,
@@ -97,6 +96,7 @@ fn judge_optimal(
         alloc,
         split,
         root,
+        positions,
         c.cuts.as_slice(),
         c.tree.as_slice(),
         goal,
@@ -107,19 +107,22 @@ fn judge_optimal(
 fn judge_infeasible(
     alloc: Global,
     split: &Split,
-    root: &NodeBox,
+    root: NodeBox,
+    positions: &[u32],
     c: &Certificate,
 ) -> Result<(), CheckFault>
-    requires root { IsRootBox split.now.model (box_of root.now) }
-    requires narrow { IsNarrowBox root.now }
+    requires root { IsRootBox split.now.model (box_of root) }
+    requires narrow { IsNarrowBox root }
+    requires positions { positions.now ≡ positions_of split.now.model split.now.part }
     requires cuts { AreCuts c.now.cuts }
     requires nodes { AreNodes c.now.tree }
-    ensures { (tree : Tree) → IsTreeOf c.now.tree tree → JudgesUnless fault.OutOfMemory (infeasible_tests split.now.model split.now.part (box_of root.now) tree c.now) result }
+    ensures { (tree : Tree) → IsTreeOf c.now.tree tree → JudgesUnless fault.OutOfMemory (infeasible_tests split.now.model split.now.part (box_of root) tree c.now) result }
 {
     judge_bound(
         alloc,
         split,
         root,
+        positions,
         c.cuts.as_slice(),
         c.tree.as_slice(),
         Goal::Empty,
@@ -135,7 +138,7 @@ fn judge_unbounded(
     c: &Certificate,
 ) -> Result<(), CheckFault>
     requires root { IsRootBox split.now.model (box_of root.now) }
-    requires positions { positions.now ≡ map (λ e. position_of split.now.part e.0) (integers_of split.now.model) }
+    requires positions { positions.now ≡ positions_of split.now.model split.now.part }
     requires few { length split.now.model.rows < 2 ^ 32 }
     ensures { Judges (unbounded_tests split.now.model split.now.part (box_of root.now) parts.now c.now) result }
 {
@@ -149,21 +152,21 @@ fn judge_unbounded(
 fn judge_over(
     alloc: Global,
     split: &Split,
-    root: &NodeBox,
+    root: NodeBox,
     positions: &[u32],
     c: &Certificate,
 ) -> Result<(), CheckFault>
     requires shaped { IsShaped c.now }
-    requires root { IsRootBox split.now.model (box_of root.now) }
-    requires narrow { IsNarrowBox root.now }
-    requires positions { positions.now ≡ map (λ e. position_of split.now.part e.0) (integers_of split.now.model) }
+    requires root { IsRootBox split.now.model (box_of root) }
+    requires narrow { IsNarrowBox root }
+    requires positions { positions.now ≡ positions_of split.now.model split.now.part }
     requires few { length split.now.model.rows < 2 ^ 32 }
-    ensures { (tree : Tree) → HasTree c.now c.now.verdict tree → JudgesUnless fault.OutOfMemory (check_tests split.now.model split.now.part (box_of root.now) tree c.now) result }
+    ensures { (tree : Tree) → HasTree c.now c.now.verdict tree → JudgesUnless fault.OutOfMemory (check_tests split.now.model split.now.part (box_of root) tree c.now) result }
 {
     match (c.verdict, &c.parts) {
         (Verdict::Optimal, Some(parts)) => judge_optimal(alloc, split, root, positions, parts, c),
-        (Verdict::Infeasible, _) => judge_infeasible(alloc, split, root, c),
-        (Verdict::Unbounded, Some(parts)) => judge_unbounded(split, root, positions, parts, c),
+        (Verdict::Infeasible, _) => judge_infeasible(alloc, split, root, positions, c),
+        (Verdict::Unbounded, Some(parts)) => judge_unbounded(split, &root, positions, parts, c),
         _ => Err(CheckFault::Shape),
     }
 }
@@ -176,7 +179,7 @@ fn judge_certificate(alloc: Global, split: &Split, c: &Certificate) -> Result<()
 {
     let root = root_box(alloc, split)?;
     let positions = integer_positions(alloc, split)?;
-    judge_over(alloc, split, &root, positions.as_slice(), c)
+    judge_over(alloc, split, root, positions.as_slice(), c)
 }
 
 /// Checks a certificate against a split: `Ok` exactly where it passes and no sum or product that tells so is wide, and

@@ -5,7 +5,8 @@ use Rattle.std.proofs.lemmas.List.Sums.{count_by-le-length}
 use Rattle.bz_algebra.specs.Sums.{AllBelow, coef}
 use Rattle.bz_model.specs.Parting.{column_at, columns_of, width_of, inner_cost, negated, terms_in}
 use Rattle.bz_model.specs.Splits.{Decomposition, IsSplit}
-use Rattle.bz_model.proofs.PartSums.{coef_terms_in, negated_within}
+use Rattle.bz_model.proofs.InnerCosts.{cost_within, decomposed}
+use Rattle.bz_model.proofs.PartSums.{coef_terms_in}
 use Rattle.bz_model.proofs.Positions.{length-columns_of}
 
 -- a part has few columns
@@ -32,11 +33,6 @@ pub negated_where : (b : Bool) (P : List (ℕ × ℤ) → Type 0) (es : List (�
 negated_where true P es f h = f h
 negated_where false P es f h = h
 
--- the inner cost speaks of columns
-pub cost_within : (d : Decomposition) → IsSplit d → AllBelow (length d.part) (inner_cost d.model)
-cost_within d s = subst (λ (n : ℕ). AllBelow n (inner_cost d.model)) (sym s.partition.numbers)
-    (negated_where d.model.maximise (AllBelow (length d.model.columns)) d.model.cost (negated_within (length d.model.columns) d.model.cost) s.indexes.cost)
-
 -- the inner cost at a position is that of the column there
 pub cost_at : (d : Decomposition) (b i : ℕ) → IsSplit d → i < width_of d.part b → coef (terms_in d.part b (inner_cost d.model)) i ≡ coef (inner_cost d.model) (column_at d.part b i)
-cost_at d b i s l = coef_terms_in d.part b (inner_cost d.model) i (cost_within d s) l
+cost_at d b i s l = coef_terms_in d.part b (inner_cost d.model) i (cost_within d.model d.part (decomposed d s)) l

@@ -1,6 +1,5 @@
 -- The tests of a cut all hold exactly where it is valid and fits.
-use Rattle.std.proofs.Common.{◌<◌, ℕ, List, ◌++◌}
-use Rattle.std.proofs.Common.{◌↔◌}
+use Rattle.std.proofs.Common.{◌<◌, ℕ, List, ◌++◌, ◌↔◌}
 use Rattle.bz_model.specs.declared.Model.{Model}
 use Rattle.bz_model.specs.Parting.{width_of}
 use Rattle.bz_cut.specs.declared.faults.CutFault.{CutFault}
@@ -8,8 +7,8 @@ use Rattle.bz_cut.specs.declared.records.Cut.{Cut}
 use Rattle.bz_cut.specs.Cuts.{IsValid}
 use Rattle.bz_cut.specs.CutTests.{cut_tests, form_tests, master_tests, own_tests, rhs_tests, sum_tests}
 use Rattle.bz_cut.specs.Fits.{FitsCut}
-use Rattle.bz_cut.specs.Tests.{AllHold, Test, each_below}
-use Rattle.bz_cut.proofs.TestLemmas.{all_behind, all_below_hold, all_front, all_joined, each_below_holds}
+use Rattle.bz_first.specs.Tests.{AllHold, Test, each_below}
+use Rattle.bz_first.proofs.TestLemmas.{all_behind, all_below_hold, all_front, all_joined, each_below_holds}
 
 module _ (m : Model) (part : List ℕ) (cut : Cut) where
   abbrev own : List (Test CutFault)

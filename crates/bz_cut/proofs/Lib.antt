@@ -1,7 +1,6 @@
 pub mod Costs
+pub mod CutDecided
 pub mod CutTold
-pub mod NarrowSums
 pub mod Steps
 pub mod SumTests
-pub mod TestLemmas
 pub mod WorkedSplits

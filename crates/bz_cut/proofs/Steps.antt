@@ -28,28 +28,6 @@ rhs_at-is [] n d l = absurd (omega arith)
 rhs_at-is (r ∷ rows) zero d l = refl
 rhs_at-is (r ∷ rows) (suc n) d l = rhs_at-is rows n d (omega arith)
 
--- ---- tests of all items of a list
--- all that is left passes exactly where all pass
-pub record Remains {X : Type 0} (P : X → Type 0) (rest whole : List X) : Type 0 where
-  pub up : AllByRecursion P rest → AllByRecursion P whole
-  pub down : AllByRecursion P whole → AllByRecursion P rest
-
-pub remains_start : {X : Type 0} (P : X → Type 0) (xs : List X) → Remains P (drop 0 xs) xs
-remains_start P xs = record { up = λ h. h; down = λ h. h }
-
-pub remains_next : {X : Type 0} (P : X → Type 0) (xs : List X) (i : ℕ) (d : X) → i < length xs → P (get_or xs i d) → Remains P (drop i xs) xs → Remains P (drop (i + 1) xs) xs
-remains_next P xs i d l p r =
-    let e : drop i xs ≡ get_or xs i d ∷ drop (i + 1) xs = left_at xs i d l in
-    record { up = λ h. r.up (rw e (p, h)); down = λ h. (rw e at (r.down h)).1 }
-
-pub remains_fail : {X : Type 0} (P : X → Type 0) (xs : List X) (i : ℕ) (d : X) → i < length xs → (P (get_or xs i d) → ⊥) → Remains P (drop i xs) xs → AllByRecursion P xs → ⊥
-remains_fail P xs i d l p r h =
-    let e : drop i xs ≡ get_or xs i d ∷ drop (i + 1) xs = left_at xs i d l in
-    p (rw e at (r.down h)).0
-
-pub remains_end : {X : Type 0} (P : X → Type 0) (xs : List X) (i : ℕ) → length xs ≤ i → Remains P (drop i xs) xs → AllByRecursion P xs
-remains_end P xs i l r = r.up (rw (none_left xs i l) tt)
-
 -- indexes below a bound, said in two ways
 pub below_all : (n : ℕ) (es : List (ℕ × ℤ)) → AllByRecursion (λ e. e.0 < n) es → AllBelow n es
 below_all n [] h = tt

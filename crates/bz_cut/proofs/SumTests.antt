@@ -3,8 +3,9 @@ use Rattle.std.proofs.Common.{◌≡◌, sym, ◌∙◌, ℕ, ℤ, ◌≤ℤ◌,
 use Rattle.bz_algebra.specs.Numbers.{IsNarrow}
 use Rattle.bz_algebra.specs.Sums.{dot}
 use Rattle.bz_num.specs.Fold.{IsNarrowSum, pairs_at}
-use Rattle.bz_cut.specs.Tests.{Judges, equation, sum_is, test}
-use Rattle.bz_cut.proofs.TestLemmas.{judges_same, judges_then}
+use Rattle.bz_first.specs.Tests.{Judges, test}
+use Rattle.bz_cut.specs.SumTests.{equation, sum_is}
+use Rattle.bz_first.proofs.TestLemmas.{judges_same, judges_then}
 
 pub sum_judged : {F T : Type 0} (broken wide : F) (multipliers : List (ℕ × ℤ)) (f : ℕ → ℤ) (found number : ℤ) (r : Result T F) → IsNarrowSum (pairs_at multipliers f) → dot multipliers f ≡ found → Judges (test broken (found ≡ number) ∷ []) r → Judges (sum_is broken wide multipliers f number) r
 sum_judged broken wide multipliers f found number r n e j =

@@ -9,7 +9,8 @@ use Rattle.bz_cut.specs.declared.faults.CutFault.{CutFault}
 use Rattle.bz_cut.specs.declared.faults.CutFault.TheVariants.{Invalid, Wide}
 use Rattle.bz_cut.specs.declared.records.Cut.{Cut}
 use Rattle.bz_cut.specs.Rows.{own_at, master_at, rhs_at, AreMultipliers}
-use Rattle.bz_cut.specs.Tests.{Test, test, equation, each_below}
+use Rattle.bz_first.specs.Tests.{Test, test, each_below}
+use Rattle.bz_cut.specs.SumTests.{equation}
 
 -- the block is one of the model's, the lists fit it, and the numbers have their signs
 abbrev pub form_tests : Model → List ℕ → Cut → List (Test CutFault)

@@ -6,7 +6,7 @@ ghost use Rattle.bz_cut.specs.Cuts.{IsValid};
 ghost use Rattle.bz_cut.specs.CutTests.{cut_tests, form_tests, master_tests, own_tests, rhs_tests, sum_tests};
 ghost use Rattle.bz_cut.specs.Fits.{FitsCut};
 ghost use Rattle.bz_cut.specs.Rows.{AreMultipliers};
-ghost use Rattle.bz_cut.specs.Tests.{Judges, each_below};
+ghost use Rattle.bz_first.specs.Tests.{Judges, each_below};
 
 use crate::faults::CutFault;
 use crate::judging::{judge_equation, judge_opposite, judge_product};

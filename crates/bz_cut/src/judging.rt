@@ -5,30 +5,11 @@ ghost use Rattle.std.proofs.Math.IntN.{neg_ℤ};
 ghost use Rattle.bz_algebra.specs.Numbers.{IsNarrow};
 ghost use Rattle.bz_algebra.specs.Sums.{dot};
 ghost use Rattle.bz_num.specs.Fold.{IsNarrowSum, fold_of, pairs_at};
-ghost use Rattle.bz_cut.specs.Tests.{Judges, equation, sum_is, test};
+ghost use Rattle.bz_first.specs.Tests.{Judges, test};
+ghost use Rattle.bz_cut.specs.SumTests.{equation, sum_is};
 
+use bz_first::{judge_equal, judge_order};
 use bz_num::{WideSum, narrow_negation, narrow_product};
-
-/// Nothing where the test holds, else the answer.
-pub fn judge<F: Copy>(holds: bool, answer: F) -> Result<(), F>
-    ensures { Judges (test answer (IsTrue holds) ∷ []) result }
-{
-    if holds { Ok(()) } else { Err(answer) }
-}
-
-/// Tests that the two numbers are equal.
-pub fn judge_equal<F: Copy>(a: i128, b: i128, broken: F) -> Result<(), F>
-    ensures { Judges (test broken (a ≡ b) ∷ []) result }
-{
-    if a == b { Ok(()) } else { Err(broken) }
-}
-
-/// Tests that the first number is at most the second.
-pub fn judge_order<F: Copy>(a: i128, b: i128, broken: F) -> Result<(), F>
-    ensures { Judges (test broken (a ≤ℤ b) ∷ []) result }
-{
-    if a <= b { Ok(()) } else { Err(broken) }
-}
 
 /// The sum of a fold where no place of it is wide, else the answer.
 pub fn judge_fold<F: Copy>(sum: Result<i128, WideSum>, wide: F) -> Result<i128, F>

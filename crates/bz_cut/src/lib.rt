@@ -15,8 +15,7 @@ mod sums;
 pub use cuts::{fits_and_valid, judge_cut};
 pub use faults::CutFault;
 pub use judging::{
-    judge, judge_at_most, judge_equal, judge_equation, judge_fold, judge_opposite, judge_order,
-    judge_product, judge_sum,
+    judge_at_most, judge_equation, judge_fold, judge_opposite, judge_product, judge_sum,
 };
 pub use laws::{cut_faults_are_unique, cut_tests_tell};
 pub use lists::{all_below, are_multipliers, inner_cost_at, inner_number, width};

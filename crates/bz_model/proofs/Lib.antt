@@ -1,8 +1,12 @@
+pub mod BoundedIntegers
 pub mod Inequalities
+pub mod InnerCosts
+pub mod Joins
+pub mod Lowest
 pub mod MeetingParts
+pub mod Numbered
 pub mod PartSums
+pub mod Placing
 pub mod Positions
 pub mod Sparse
-pub mod Joins
-pub mod Placing
 pub mod WorkedModel

@@ -1,8 +1,7 @@
-pub mod Limits
+pub mod Decomposed
 pub mod Meeting
 pub mod PartLists
+pub mod PartPoints
 pub mod Parting
-pub mod Points
-pub mod Splits
-pub mod Strict
-pub mod Worked
+pub mod PointFits
+pub mod PointSums

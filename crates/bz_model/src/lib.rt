@@ -3,6 +3,7 @@
 
 mod growing;
 mod laws;
+mod objective;
 mod parts;
 mod places;
 mod records;
@@ -10,13 +11,16 @@ mod rows;
 mod sharing;
 mod sides;
 mod splitting;
+mod stated;
 
 pub use laws::feasible_is_meeting_all_parts;
+pub use objective::{numerator, stated_of};
 pub use parts::{BlockPart, Master, Parts};
 pub use places::greatest;
 pub use records::{Column, Ineq, Model, Row};
 pub use sides::home;
 pub use splitting::{Split, Unsplit0};
+pub use stated::Stated;
 
 #[cfg(test)]
 mod tests;

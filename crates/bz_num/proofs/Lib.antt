@@ -9,8 +9,4 @@ pub mod DenseRows
 pub mod Divisors
 pub mod Folds
 pub mod Lowest
-pub mod Pushed
-pub mod Quotients
-pub mod Reduces
-pub mod Rounding
-pub mod Rows
+pub mod NarrowSums

@@ -33,6 +33,13 @@ impl<T> Items<T> {
     {
         self.items.as_slice()
     }
+
+    /// The vector of the items. It takes no memory.
+    pub fn into_vec(self) -> Vec<T>
+        ensures { result.items ≡ self }
+    {
+        self.items
+    }
 }
 
 impl<T: Copy> Items<T> {

@@ -13,9 +13,10 @@ use Rattle.bz_model.proofs.MeetingParts.{all_then, feasible_meets, meeting_is_fe
 use Rattle.bz_model.proofs.PartSums.{at_part, dot_by_parts, negated_within, terms_in_within}
 use Rattle.bz_cut.specs.declared.Cut.{Cut}
 use Rattle.bz_cut.specs.Cuts.{IsValid}
-pub use Rattle.bz_pass.specs.Laws.{IsDecomposed}
+use Rattle.bz_model.specs.Decomposed.{IsDecomposed}
+use Rattle.bz_model.proofs.InnerCosts.{cost_terms_within, cost_within}
 use Rattle.bz_pass.proofs.Fractional.{divided}
-use Rattle.bz_pass.proofs.Numbered.{upto_first}
+use Rattle.bz_model.proofs.Numbered.{upto_first}
 use Rattle.bz_pass.proofs.Sides.{FitsIn, sum_holds, upto_multiple, upto_multiple_neg}
 
 pub meets : (m : Model) (part : List ℕ) (p : List ℤ) (q : ℤ) → IsDecomposed m part → IsFeasible m p q → MeetsAllParts m part p q
@@ -28,16 +29,6 @@ feasible m part p q d f = meeting_is_feasible m part p q d.columns d.partition d
 -- the inner cost of a part at the numerators p
 abbrev pub cost_of_part : Model → List ℕ → List ℤ → ℕ → ℤ
 cost_of_part m part p b = dot (terms_in part b (inner_cost m)) (at_part part b (coordinate p))
-
-either_way : (n : ℕ) (b : Bool) (es : List (ℕ × ℤ)) → AllBelow n es → AllBelow n (if b then negated es else es)
-either_way n true es h = negated_within n es h
-either_way n false es h = h
-
-cost_within : (m : Model) (part : List ℕ) → IsDecomposed m part → AllBelow (length part) (inner_cost m)
-cost_within m part d = subst (λ (n : ℕ). AllBelow n (inner_cost m)) (sym d.partition.numbers) (either_way (length m.columns) m.maximise m.cost d.columns.cost)
-
-pub cost_terms_within : (m : Model) (part : List ℕ) (b : ℕ) → IsDecomposed m part → AllBelow (width_of part b) (terms_in part b (inner_cost m))
-cost_terms_within m part b d = terms_in_within part b (inner_cost m) (cost_within m part d)
 
 -- the inner cost is the master's and the blocks'
 pub cost_by_parts : (m : Model) (part : List ℕ) (p : List ℤ) → IsDecomposed m part → dot (inner_cost m) (coordinate p) ≡ cost_of_part m part p 0 +ℤ upto (blocks_of part) (λ k. cost_of_part m part p (suc k))

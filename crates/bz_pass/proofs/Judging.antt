@@ -11,16 +11,17 @@ use Rattle.bz_model.specs.Points.{coordinate, objective, IsFeasible, IsInfeasibl
 use Rattle.bz_model.proofs.MeetingParts.{all_then}
 use Rattle.bz_cut.specs.declared.Cut.{Cut}
 use Rattle.bz_tree.specs.Boxes.{Box, IsRootBox}
-use Rattle.bz_pass.specs.PartPoints.{HasPointShape, BlockHolds, IsPointOf}
+use Rattle.bz_model.specs.PartPoints.{HasPointShape, BlockHolds, IsPointOf}
 use Rattle.bz_cut.specs.Cuts.{IsValid}
-use Rattle.bz_pass.specs.Laws.{IsDecomposed}
+use Rattle.bz_model.specs.Decomposed.{IsDecomposed}
 use Rattle.bz_pass.proofs.LeavesHold.{leaf_empties, passing_leaf_bounds}
 use Rattle.bz_pass.proofs.MasterIntegers.{lies_in_root}
 use Rattle.bz_pass.proofs.Optimality.{least_is_optimal}
 use Rattle.bz_pass.proofs.PointsOfParts.{parts_are_feasible, parts_cost_at_most}
 use Rattle.bz_pass.proofs.SomePoint.{the_point, is_point}
 use Rattle.bz_tree.specs.declared.TreeNode.{TreeNode}
-use Rattle.bz_pass.specs.Verdicts.{PassesInfeasible, PassesOptimal, objective_of}
+use Rattle.bz_tree.specs.Verdicts.{PassesInfeasible, PassesOptimal}
+use Rattle.bz_model.specs.Stated.{objective_of}
 use Rattle.bz_tree.specs.Trees.{Tree, HoldsOver, EachLeaf, IsEmpty, Reaches}
 use Rattle.bz_pass.proofs.Covering.{holding_leaf}
 
@@ -35,7 +36,7 @@ tree_refutes m part cuts nodes d s p q f =
     leaf_empties m part at.0 cuts at.1 p q d s.cuts at.2 at.3 f at.4
 
 pub tree_optimal : (m : Model) (part : List ℕ) (parts : Parts) (value : ℤ) (cuts : List Cut) (nodes : List TreeNode) (p : List ℤ) (q : ℤ) → IsDecomposed m part → PassesOptimal m part parts value cuts nodes → IsPointOf m part parts p q → IsOptimal m p q × IsSameNumber (objective m p q) (objective_of m value parts.master.den)
-tree_optimal m part parts value cuts nodes p q d s r = least_is_optimal m parts.master.den value p q s.shape.den
+tree_optimal m part parts value cuts nodes p q d s r = least_is_optimal m parts.master.den value p q s.shape.point.master.den
     (parts_are_feasible m part parts p q d
     (record {
       shape = s.shape;
@@ -53,7 +54,7 @@ tree_optimal m part parts value cuts nodes p q d s r = least_is_optimal m parts.
       value = s.value;
     })
     r)
-    (λ p' q' f. tree_bounds m part s.root cuts s.tree value parts.master.den p' q' d s.cuts s.is_root s.holds s.bounds s.shape.den f)
+    (λ p' q' f. tree_bounds m part s.root cuts s.tree value parts.master.den p' q' d s.cuts s.is_root s.holds s.bounds s.shape.point.master.den f)
 
 pub some_point : (m : Model) (part : List ℕ) (parts : Parts) → IsDecomposed m part → HasPointShape m part parts → (p : List ℤ) × (q : ℤ) × IsPointOf m part parts p q
 some_point m part parts d s = let r = is_point m part parts d.partition.numbers s in (the_point m part parts, _, r)

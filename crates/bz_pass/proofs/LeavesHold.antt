@@ -21,10 +21,12 @@ use Rattle.bz_tree.specs.declared.Leaf.{Leaf}
 use Rattle.bz_tree.specs.Boxes.{Box, LiesIn}
 use Rattle.bz_cut.specs.Cuts.{IsValid}
 use Rattle.bz_tree.specs.Leaves.{LeafHolds, sides_of, side_of_master, sides_of_box, side_of_cut}
-use Rattle.bz_pass.proofs.CutsHold.{IsDecomposed, meets, cost_of_part, cost_terms_within, cost_by_parts, part_fits, cut_holds}
+use Rattle.bz_model.specs.Decomposed.{IsDecomposed}
+use Rattle.bz_pass.proofs.CutsHold.{meets, cost_of_part, cost_by_parts, part_fits, cut_holds}
+use Rattle.bz_model.proofs.InnerCosts.{cost_terms_within}
 use Rattle.bz_pass.proofs.Fractional.{turned}
-use Rattle.bz_pass.proofs.MasterIntegers.{IsBoundedInMaster, integers_bounded}
-use Rattle.bz_pass.proofs.Numbered.{all_mapped, all_numbered}
+use Rattle.bz_model.proofs.BoundedIntegers.{IsBoundedInMaster, integers_bounded}
+use Rattle.bz_model.proofs.Numbered.{all_mapped, all_numbered}
 use Rattle.bz_pass.proofs.Sides.{FitsIn, HoldsAt, sum_holds, upto_multiple_neg}
 
 -- the leaf holds over the box, and is empty or has a bound that is no less than value / den

@@ -4,7 +4,6 @@ pub mod Fractional
 pub mod Judging
 pub mod LeavesHold
 pub mod MasterIntegers
-pub mod Numbered
 pub mod Optimality
 pub mod PointsOfParts
 pub mod Rays

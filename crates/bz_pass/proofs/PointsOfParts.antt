@@ -20,11 +20,14 @@ use Rattle.bz_model.proofs.Inequalities.{master_has_own_alone}
 use Rattle.bz_model.proofs.MeetingParts.{all_both, all_then}
 use Rattle.bz_model.proofs.PartSums.{at_part}
 use Rattle.bz_tree.specs.Boxes.{Box, IsRootBox}
-use Rattle.bz_pass.specs.PartPoints.{eta_of, total, HasShape, HoldsInMaster, HoldsInBlock, IntegerHolds, IsPointOf}
-use Rattle.bz_pass.proofs.CutsHold.{IsDecomposed, feasible, cost_of_part, cost_terms_within, cost_by_parts, part_fits}
+use Rattle.bz_model.specs.PartPoints.{eta_of, total, HasShape, HoldsInMaster, HoldsInBlock, IsPointOf}
+use Rattle.bz_tree.specs.Integers.{IntegerHolds}
+use Rattle.bz_model.specs.Decomposed.{IsDecomposed}
+use Rattle.bz_pass.proofs.CutsHold.{feasible, cost_of_part, cost_by_parts, part_fits}
+use Rattle.bz_model.proofs.InnerCosts.{cost_terms_within}
 use Rattle.bz_pass.proofs.Fractional.{scaled_le, scaled_ge, scaled_whole, scaled_sum, within_ceiling, within_floor}
-use Rattle.bz_pass.proofs.MasterIntegers.{IsBoundedInMaster, integers_bounded}
-use Rattle.bz_pass.proofs.Numbered.{all_numbered, all_from_numbered, each_number, total_upto}
+use Rattle.bz_model.proofs.BoundedIntegers.{IsBoundedInMaster, integers_bounded}
+use Rattle.bz_model.proofs.Numbered.{all_numbered, all_from_numbered, each_number, total_upto}
 use Rattle.bz_pass.proofs.Sides.{FitsIn, dot_scaled}
 
 -- the parts keep the model's inequalities, bounds and integer columns; nothing is said of their etas
@@ -71,7 +74,7 @@ module _ (m : Model) (part : List ℕ) (parts : Parts) (p : List ℤ) (q : ℤ) 
   own_alone : (i : Ineq) → i.master ≡ [] → AllBelow (width_of part 0) i.own → HoldsInMaster parts.master i → IneqHolds part 0 p q i
   own_alone i e w h =
       let scaled : dot i.own (at_part part 0 (coordinate p)) *ℤ den ≡ dot i.own (coordinate parts.master.x) *ℤ q = dot_scaled (width_of part 0) i.own (at_part part 0 (coordinate p)) (coordinate parts.master.x) den q w r.master in
-      let at_most : (dot i.own (at_part part 0 (coordinate p))) ≤ℤ (i.rhs *ℤ q) = scaled_le den q i.rhs _ (dot i.own (coordinate parts.master.x)) s.shape.den r.positive scaled h in
+      let at_most : (dot i.own (at_part part 0 (coordinate p))) ≤ℤ (i.rhs *ℤ q) = scaled_le den q i.rhs _ (dot i.own (coordinate parts.master.x)) s.shape.point.master.den r.positive scaled h in
       omega (arith, ints, at_most, ap (λ (es : List (ℕ × ℤ)). dot es (at_part part 0 (coordinate p))) e)
 
   master_meets : AllByRecursion (IneqHolds part 0 p q) (inequalities_of m part 0)
@@ -95,19 +98,19 @@ module _ (m : Model) (part : List ℕ) (parts : Parts) (p : List ℤ) (q : ℤ) 
       (all_both (IsIntegerIn part s.root parts.master) _ _ (enumerate_from 0 (integers_of m)) integers_in s.is_root.rounded
       (λ e h ends. record {
         at_least = within_ceiling e.1.1.lower (coordinate s.root.lower e.0) (coordinate p e.1.0) q r.positive ends.0
-            (scaled_ge den q (coordinate s.root.lower e.0) (coordinate p e.1.0) (coordinate parts.master.x (position_of part e.1.0)) s.shape.den r.positive (at_column e.1 h.in_master) h.holds.at_least);
+            (scaled_ge den q (coordinate s.root.lower e.0) (coordinate p e.1.0) (coordinate parts.master.x (position_of part e.1.0)) s.shape.point.master.den r.positive (at_column e.1 h.in_master) h.holds.at_least);
         at_most = within_floor e.1.1.upper (coordinate s.root.upper e.0) (coordinate p e.1.0) q r.positive ends.1
-            (scaled_le den q (coordinate s.root.upper e.0) (coordinate p e.1.0) (coordinate parts.master.x (position_of part e.1.0)) s.shape.den r.positive (at_column e.1 h.in_master) h.holds.at_most);
+            (scaled_le den q (coordinate s.root.upper e.0) (coordinate p e.1.0) (coordinate parts.master.x (position_of part e.1.0)) s.shape.point.master.den r.positive (at_column e.1 h.in_master) h.holds.at_most);
       }))
 
   whole_meet : AllByRecursion (λ e. IsWhole (coordinate p e.0) q) (integers_of m)
   whole_meet = all_from_numbered (λ e. IsWhole (coordinate p e.0) q) 0 (integers_of m)
       (all_then (IsIntegerIn part s.root parts.master) _ (enumerate_from 0 (integers_of m)) integers_in
-      (λ e h. scaled_whole den q (coordinate p e.1.0) (coordinate parts.master.x (position_of part e.1.0)) s.shape.den (at_column e.1 h.in_master) h.holds.whole))
+      (λ e h. scaled_whole den q (coordinate p e.1.0) (coordinate parts.master.x (position_of part e.1.0)) s.shape.point.master.den (at_column e.1 h.in_master) h.holds.whole))
 
   -- ---- the blocks
   blocks_at : AllByRecursion (IsBlockAt m part parts.master p q) (enumerate_from 1 parts.blocks)
-  blocks_at = all_both _ _ _ (enumerate_from 1 parts.blocks) s.shape.each
+  blocks_at = all_both _ _ _ (enumerate_from 1 parts.blocks) s.shape.point.each
       (all_both (λ e. AllByRecursion (HoldsInBlock parts.master e.1) (inequalities_of m part e.0)) (λ e. (i : ℕ) → i < width_of part e.0 → coordinate p (column_at part e.0 i) *ℤ (parts.master.den *ℤ e.1.times) ≡ coordinate e.1.y i *ℤ q) (λ e. AllByRecursion (HoldsInBlock parts.master e.1) (inequalities_of m part e.0) × ((i : ℕ) → i < width_of part e.0 → coordinate p (column_at part e.0 i) *ℤ (parts.master.den *ℤ e.1.times) ≡ coordinate e.1.y i *ℤ q)) (enumerate_from 1 parts.blocks) s.rows r.blocks (λ e h g. (h, g)))
       (λ e g h. record { positive = g.0; rows = h.0; point = h.1 })
 
@@ -115,7 +118,7 @@ module _ (m : Model) (part : List ℕ) (parts : Parts) (p : List ℤ) (q : ℤ) 
   in_block e b i f h = scaled_sum den e.1.times q i.rhs
       (dot i.own (at_part part e.0 (coordinate p))) (dot i.own (coordinate e.1.y))
       (dot i.master (at_part part 0 (coordinate p))) (dot i.master (coordinate parts.master.x))
-      s.shape.den b.positive r.positive
+      s.shape.point.master.den b.positive r.positive
       (dot_scaled (width_of part e.0) i.own (at_part part e.0 (coordinate p)) (coordinate e.1.y) (den *ℤ e.1.times) q f.own b.point)
       (dot_scaled (width_of part 0) i.master (at_part part 0 (coordinate p)) (coordinate parts.master.x) den q f.master r.master)
       h
@@ -128,7 +131,7 @@ module _ (m : Model) (part : List ℕ) (parts : Parts) (p : List ℤ) (q : ℤ) 
   part_meets zero l = master_meets
   part_meets (suc b) l = each_number (λ k. AllByRecursion (IneqHolds part k p q) (inequalities_of m part k)) 1 parts.blocks
       (all_then (IsBlockAt m part parts.master p q) _ (enumerate_from 1 parts.blocks) blocks_at (λ e h. block_meets e h))
-      (suc b) (omega arith) (omega (arith, s.shape.blocks))
+      (suc b) (omega arith) (omega (arith, s.shape.point.blocks))
 
   point_meets : MeetsAllParts m part p q
   point_meets = record {
@@ -145,7 +148,7 @@ module _ (m : Model) (part : List ℕ) (parts : Parts) (v : ℤ) (p : List ℤ) 
   over = parts.master.den
 
   costs_at : AllByRecursion (IsCostAt m part parts.master p q) (enumerate_from 1 parts.blocks)
-  costs_at = all_both _ _ _ (enumerate_from 1 parts.blocks) s.shape.each
+  costs_at = all_both _ _ _ (enumerate_from 1 parts.blocks) s.shape.point.each
       (all_both (λ e. dot (terms_in part e.0 (inner_cost m)) (coordinate e.1.y) ≤ℤ (eta_of parts.master e.0 *ℤ e.1.times)) (λ e. (i : ℕ) → i < width_of part e.0 → coordinate p (column_at part e.0 i) *ℤ (parts.master.den *ℤ e.1.times) ≡ coordinate e.1.y i *ℤ q) (λ e. (dot (terms_in part e.0 (inner_cost m)) (coordinate e.1.y) ≤ℤ (eta_of parts.master e.0 *ℤ e.1.times)) × ((i : ℕ) → i < width_of part e.0 → coordinate p (column_at part e.0 i) *ℤ (parts.master.den *ℤ e.1.times) ≡ coordinate e.1.y i *ℤ q)) (enumerate_from 1 parts.blocks) s.costs r.blocks (λ e h g. (h, g)))
       (λ e g h. record { positive = g.0; cost = h.0; point = h.1 })
 
@@ -162,7 +165,7 @@ module _ (m : Model) (part : List ℕ) (parts : Parts) (v : ℤ) (p : List ℤ) 
   each_cost k l = subst (λ (t : ℤ). (cost_of_part m part p (suc k) *ℤ over) ≤ℤ (t *ℤ q)) (eta_next k)
       (each_number (λ b. (cost_of_part m part p b *ℤ over) ≤ℤ (eta_of parts.master b *ℤ q)) 1 parts.blocks
       (all_then (IsCostAt m part parts.master p q) _ (enumerate_from 1 parts.blocks) costs_at (λ e h. block_cost e h))
-      (suc k) (omega arith) (omega (arith, s.shape.blocks)))
+      (suc k) (omega arith) (omega (arith, s.shape.point.blocks)))
 
   costs_of_blocks : (upto (blocks_of part) (λ k. cost_of_part m part p (suc k)) *ℤ over) ≤ℤ (total parts.master.eta *ℤ q)
   costs_of_blocks =

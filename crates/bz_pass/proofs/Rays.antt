@@ -17,12 +17,14 @@ use Rattle.bz_model.specs.Parting.{blocks_of, integers_of}
 use Rattle.bz_model.specs.Points.{coordinate, objective, IsBetter, IsFeasible, IsUnbounded, IsWhole, RowHolds, ColumnHolds}
 use Rattle.bz_model.specs.Strict.{HasItsColumns}
 use Rattle.bz_model.proofs.MeetingParts.{all_both, all_then, numbers_within}
-use Rattle.bz_pass.specs.PartPoints.{IntegerHolds, IsPointOf}
-use Rattle.bz_pass.specs.Laws.{IsDecomposed}
-use Rattle.bz_pass.proofs.Numbered.{list_of, length-list_of, coordinate-list_of}
+use Rattle.bz_tree.specs.Integers.{IntegerHolds}
+use Rattle.bz_model.specs.PartPoints.{HasPointShape, IsPointOf}
+use Rattle.bz_model.specs.Decomposed.{IsDecomposed}
+use Rattle.bz_model.proofs.Numbered.{list_of, length-list_of, coordinate-list_of}
 use Rattle.bz_pass.proofs.Optimality.{either}
 use Rattle.bz_pass.proofs.PointsOfParts.{AreFeasible, parts_are_feasible}
-use Rattle.bz_pass.specs.Verdicts.{PassesUnbounded, IsFallingRay, RowAllows, ColumnAllows}
+use Rattle.bz_tree.specs.Verdicts.{PassesUnbounded}
+use Rattle.bz_model.specs.Rays.{IsFallingRay, RowAllows, ColumnAllows}
 use Rattle.bz_pass.proofs.Judging.{some_point}
 
 -- ---- steps along a ray keep sides and bounds
@@ -153,9 +155,12 @@ without_etas part parts = record {
   blocks = parts.blocks;
 }
 
+shape_without_etas : (m : Model) (part : List ℕ) (parts : Parts) → HasPointShape m part parts → HasPointShape m part (without_etas part parts)
+shape_without_etas m part parts s = record { master = record { den = s.master.den; x = s.master.x }; blocks = s.blocks; each = s.each }
+
 without_etas_feasible : (m : Model) (part : List ℕ) (parts : Parts) (ray : List ℤ) → PassesUnbounded m part parts ray → AreFeasible m part (without_etas part parts)
 without_etas_feasible m part parts ray s = record {
-  shape = record { den = s.shape.den; x = s.shape.x; eta = length-list_of (blocks_of part) _; blocks = s.shape.blocks; each = s.shape.each };
+  shape = record { point = shape_without_etas m part parts s.shape; eta = length-list_of (blocks_of part) _ };
   master = s.master;
   root = s.root;
   is_root = s.is_root;
@@ -166,7 +171,7 @@ without_etas_feasible m part parts ray s = record {
 pub ray_unbounded : (m : Model) (part : List ℕ) (parts : Parts) (ray : List ℤ) → IsDecomposed m part → PassesUnbounded m part parts ray → IsUnbounded m
 ray_unbounded m part parts ray d s n =
     let kept = without_etas_feasible m part parts ray s in
-    let at = some_point m part (without_etas part parts) d (record { den = s.shape.den; x = s.shape.x; blocks = s.shape.blocks; each = s.shape.each }) in
+    let at = some_point m part (without_etas part parts) d (shape_without_etas m part parts s.shape) in
     better_point m at.0 ray at.1 n d.columns (parts_are_feasible m part (without_etas part parts) at.0 at.1 d kept at.2) s.falls
 
 -- each point of the parts of a passing certificate is feasible, whatever their etas are

@@ -13,8 +13,8 @@ use Rattle.bz_model.specs.Parting.{part_of, width_of, column_at, position_of}
 use Rattle.bz_model.specs.Points.{coordinate}
 use Rattle.bz_model.proofs.MeetingParts.{all_then}
 use Rattle.bz_model.proofs.Positions.{IsColumnAt, column_at_is}
-use Rattle.bz_pass.specs.PartPoints.{HasPointShape, IsPointOf}
-use Rattle.bz_pass.proofs.Numbered.{list_of, length-list_of, coordinate-list_of}
+use Rattle.bz_model.specs.PartPoints.{HasPointShape, IsPointOf}
+use Rattle.bz_model.proofs.Numbered.{list_of, length-list_of, coordinate-list_of}
 
 -- the product of the blocks' factors
 abbrev all_times : List BlockPart → ℤ
@@ -78,7 +78,7 @@ module _ (m : Model) (part : List ℕ) (parts : Parts) where
 
   pub is_point : length part ≡ length m.columns → HasPointShape m part parts → IsPointOf m part parts the_point (parts.master.den *ℤ all_times parts.blocks)
   is_point n s = record {
-    positive = mul_positive parts.master.den (all_times parts.blocks) s.den (times_positive 1 parts.blocks (all_then _ _ (enumerate_from 1 parts.blocks) s.each (λ e h. h.0)));
+    positive = mul_positive parts.master.den (all_times parts.blocks) s.master.den (times_positive 1 parts.blocks (all_then _ _ (enumerate_from 1 parts.blocks) s.each (λ e h. h.0)));
     numbers = counted;
     master = λ i l. ap (λ (t : ℤ). t *ℤ parts.master.den) (at_position n 0 i l ∙ number-master i) ∙ in_master (coordinate parts.master.x i) (all_times parts.blocks) parts.master.den;
     blocks = all_then (λ e. (i : ℕ) → number e.0 i *ℤ e.1.times ≡ coordinate e.1.y i *ℤ (pos 1 *ℤ all_times parts.blocks)) _ (enumerate_from 1 parts.blocks) (raised_are 1 (pos 1) parts.blocks number number-block)

@@ -19,12 +19,13 @@ use Rattle.bz_model.specs.Strict.{size_of}
 use Rattle.bz_cut.specs.declared.Cut.{Cut}
 use Rattle.bz_tree.specs.declared.Leaf.{Leaf}
 use Rattle.bz_tree.specs.Boxes.{Box, IsRootBox}
-use Rattle.bz_pass.specs.PartPoints.{HasShape, IsPointOf}
+use Rattle.bz_model.specs.PartPoints.{HasShape, IsPointOf}
 use Rattle.bz_cut.specs.Cuts.{IsValid}
-use Rattle.bz_pass.specs.Laws.{IsDecomposed}
+use Rattle.bz_model.specs.Decomposed.{IsDecomposed}
 use Rattle.bz_tree.specs.Leaves.{LeafHolds}
 use Rattle.bz_tree.specs.declared.TreeNode.{TreeNode}
-use Rattle.bz_pass.specs.Verdicts.{PassesInfeasible, PassesUnbounded, PassesOptimal, objective_of}
+use Rattle.bz_tree.specs.Verdicts.{PassesInfeasible, PassesUnbounded, PassesOptimal}
+use Rattle.bz_model.specs.Stated.{objective_of}
 use Rattle.bz_tree.specs.Trees.{Tree, IsSplitOf, with_lower, with_upper}
 use Rattle.bz_pass.proofs.Judging.{tree_optimal, tree_refutes}
 use Rattle.bz_pass.proofs.Rays.{ray_unbounded}
@@ -106,11 +107,12 @@ nodes = TreeNode.Split 0 (pos 0) (pos 1) ∷ TreeNode.Leaf leaf_below ∷ TreeNo
 
 shape : HasShape (two costs) part parts
 shape = record {
-  den = omega (arith, ints);
-  x = refl;
+  point = record {
+    master = record { den = omega (arith, ints); x = refl };
+    blocks = refl;
+    each = ((omega (arith, ints), refl), tt);
+  };
   eta = refl;
-  blocks = refl;
-  each = ((omega (arith, ints), refl), tt);
 }
 
 is_root : (cost : List (ℕ × ℤ)) → IsRootBox (two cost) root
@@ -220,7 +222,7 @@ falling = (1, negsuc 0) ∷ []
 
 pub ray_passes : PassesUnbounded (two falling) part parts (pos 0 ∷ pos 1 ∷ [])
 ray_passes = record {
-  shape = record { den = omega (arith, ints); x = refl; blocks = refl; each = ((omega (arith, ints), refl), tt) };
+  shape = record { master = record { den = omega (arith, ints); x = refl }; blocks = refl; each = ((omega (arith, ints), refl), tt) };
   master = tt;
   root = root;
   is_root = is_root falling;

@@ -6,9 +6,9 @@ use Rattle.bz_algebra.specs.Fractions.{IsSameNumber}
 use Rattle.bz_algebra.specs.Sums.{dot}
 use Rattle.bz_model.specs.declared.Model.{Model}
 use Rattle.bz_model.specs.declared.Parts.{Parts}
+use Rattle.bz_model.specs.Decomposed.{IsDecomposed}
 use Rattle.bz_model.specs.Parting.{column_at, terms_in, inner_cost}
 use Rattle.bz_model.specs.Points.{coordinate, objective, IsFeasible, IsInfeasible, IsOptimal, IsUnbounded}
-use Rattle.bz_model.specs.Strict.{HasItsColumns, IsPartition, IsStrict}
 use Rattle.bz_cut.specs.declared.Cut.{Cut}
 use Rattle.bz_cut.specs.Cuts.{IsValid}
 use Rattle.bz_tree.specs.declared.Leaf.{Leaf}
@@ -16,14 +16,9 @@ use Rattle.bz_tree.specs.declared.TreeNode.{TreeNode}
 use Rattle.bz_tree.specs.Boxes.{Box, IsRootBox, LiesIn}
 use Rattle.bz_tree.specs.Leaves.{LeafHolds}
 use Rattle.bz_tree.specs.Trees.{Tree, HasLeaf, HasSplits, HoldsOver, EachLeaf, Reaches}
-use Rattle.bz_pass.specs.PartPoints.{HasPointShape, IsPointOf}
-use Rattle.bz_pass.specs.Verdicts.{PassesInfeasible, PassesOptimal, PassesUnbounded, objective_of}
-
--- the model may be solved by the partition
-pub record IsDecomposed (m : Model) (part : List ℕ) : Type 0 where
-  pub columns : HasItsColumns m
-  pub partition : IsPartition m part
-  pub strict : IsStrict m part
+use Rattle.bz_model.specs.PartPoints.{HasPointShape, IsPointOf}
+use Rattle.bz_tree.specs.Verdicts.{PassesInfeasible, PassesOptimal, PassesUnbounded}
+use Rattle.bz_model.specs.Stated.{objective_of}
 
 -- the inner cost of block b at the point p
 abbrev pub block_cost : Model → List ℕ → List ℤ → ℕ → ℤ

@@ -1,3 +1,1 @@
 pub mod Laws
-pub mod PartPoints
-pub mod Verdicts

@@ -9,16 +9,18 @@ use Rattle.bz_model.specs.Splits.{Decomposition, IsSplit}
 use Rattle.bz_model.specs.declared.Model.{Model}
 use Rattle.bz_model.specs.Points.{objective, IsOptimal, IsUnbounded}
 use Rattle.bz_top.specs.declared.job.Job.{Job}
-use Rattle.bz_check.specs.Fits.{Fits}
+use Rattle.bz_cert.specs.Fits.{Fits}
 use Rattle.bz_io.specs.Desk.{Contents}
-use Rattle.bz_check.specs.Passing.{Passes, PassesAs}
+use Rattle.bz_cert.specs.Passing.{Passes, PassesAs}
 use Rattle.bz_cert.specs.declared.Certificate.{Certificate}
 use Rattle.bz_cert.specs.declared.Verdict.{Verdict}
 use Rattle.bz_cert.specs.declared.Verdict.TheVariants as verdict
 use Rattle.bz_model.specs.declared.Parts.{Parts}
-use Rattle.bz_pass.specs.Laws.{IsDecomposed, PassingIsInfeasible, PassingIsOptimal, PassingIsUnbounded, PartsHaveAPoint}
-use Rattle.bz_pass.specs.PartPoints.{IsPointOf}
-use Rattle.bz_pass.specs.Verdicts.{PassesOptimal, objective_of}
+use Rattle.bz_model.specs.Decomposed.{IsDecomposed}
+use Rattle.bz_pass.specs.Laws.{PassingIsInfeasible, PassingIsOptimal, PassingIsUnbounded, PartsHaveAPoint}
+use Rattle.bz_model.specs.PartPoints.{IsPointOf}
+use Rattle.bz_tree.specs.Verdicts.{PassesOptimal}
+use Rattle.bz_model.specs.Stated.{objective_of}
 use Rattle.bz_top.specs.declared.said.Holding.{Holding}
 use Rattle.bz_top.specs.declared.said.Holding.TheVariants.{Optimal, Infeasible, Unbounded}
 use Rattle.bz_top.specs.Claims.{Shows}
@@ -53,7 +55,7 @@ true_of laws d c (Optimal stated) split passes says =
     let decomposed : IsDecomposed d.model d.part = record { columns = split.indexes; partition = split.partition; strict = split.strict } in
     let parts = says.1.0 in
     let p : PassesOptimal d.model d.part parts c.value c.cuts c.tree = passes_as d.model d.part c verdict.Optimal (Some parts) says.0 says.1.1 passes in
-    let at : (p : List ℤ) × (q : ℤ) × IsPointOf d.model d.part parts p q = laws.point d.model d.part parts decomposed (record { den = p.shape.den; x = p.shape.x; blocks = p.shape.blocks; each = p.shape.each }) in
+    let at : (p : List ℤ) × (q : ℤ) × IsPointOf d.model d.part parts p q = laws.point d.model d.part parts decomposed p.shape.point in
     let best : IsOptimal d.model at.0 at.1 × IsSameNumber (objective d.model at.0 at.1) (objective_of d.model c.value parts.master.den) = laws.optimal d.model d.part parts c.value c.cuts c.tree at.0 at.1 decomposed p at.2 in
     record {
       says = says.0;
@@ -64,7 +66,7 @@ true_of laws d c (Optimal stated) split passes says =
       point = at.2;
       optimal = best.0;
       reduced = says.1.3;
-      objective_is = same_through _ _ _ (mul_positive _ _ d.model.scale_positive p.shape.den) says.1.2 best.1;
+      objective_is = same_through _ _ _ (mul_positive _ _ d.model.scale_positive p.shape.point.master.den) says.1.2 best.1;
     }
 true_of laws d c Infeasible split passes says =
     let decomposed : IsDecomposed d.model d.part = record { columns = split.indexes; partition = split.partition; strict = split.strict } in

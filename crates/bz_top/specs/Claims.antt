@@ -23,13 +23,13 @@ use Rattle.bz_cert.specs.declared.Certificate.{Certificate}
 use Rattle.bz_cert.specs.declared.Verdict.TheVariants as verdict
 use Rattle.bz_cert.specs.CertFaults.{IsCertFault}
 use Rattle.bz_cert.specs.CertText.{IsCertText}
-use Rattle.bz_check.specs.declared.CheckFault.{CheckFault}
-use Rattle.bz_check.specs.declared.Stated.{Stated}
+use Rattle.bz_judge.specs.declared.CheckFault.{CheckFault}
+use Rattle.bz_model.specs.declared.Stated.{Stated}
 use Rattle.bz_check.specs.CheckTests.{IsCheckFault}
-use Rattle.bz_check.specs.Fits.{Fits}
-use Rattle.bz_check.specs.Passing.{Passes}
-use Rattle.bz_check.specs.Stated.{IsReduced, stated_fraction}
-use Rattle.bz_pass.specs.PartPoints.{IsPointOf}
+use Rattle.bz_cert.specs.Fits.{Fits}
+use Rattle.bz_cert.specs.Passing.{Passes}
+use Rattle.bz_model.specs.Stated.{IsReduced, stated_fraction}
+use Rattle.bz_model.specs.PartPoints.{IsPointOf}
 use Rattle.bz_top.specs.declared.job.Job.{Job}
 use Rattle.bz_top.specs.declared.job.Job.TheVariants as job
 use Rattle.bz_top.specs.declared.said.Holding.{Holding}

@@ -10,9 +10,8 @@ use Rattle.bz_split.specs.SplitFaults.{IsSplitFault}
 use Rattle.bz_cert.specs.declared.Certificate.{Certificate}
 use Rattle.bz_cert.specs.declared.Verdict.TheVariants as verdict
 use Rattle.bz_check.specs.CheckTests.{IsCheckFault}
-use Rattle.bz_check.specs.Stated.{IsReduced, stated_fraction}
-use Rattle.bz_pass.specs.Laws.{IsDecomposed}
-use Rattle.bz_pass.specs.Verdicts.{objective_of}
+use Rattle.bz_model.specs.Stated.{IsReduced, stated_fraction, objective_of}
+use Rattle.bz_model.specs.Decomposed.{IsDecomposed}
 use Rattle.bz_top.specs.declared.job.Job.{Job}
 use Rattle.bz_top.specs.declared.said.Holding.{Holding}
 use Rattle.bz_top.specs.declared.said.Holding.TheVariants.{Optimal, Infeasible, Unbounded}

@@ -5,9 +5,9 @@ use Rattle.std.specs.Int.RustNames.{unsigned_abs}
 use Rattle.bz_algebra.specs.Fractions.{Fraction}
 use Rattle.bz_cert.specs.declared.CertFault.{CertFault}
 use Rattle.bz_cert.specs.declared.CertKind.{CertKind}
-use Rattle.bz_check.specs.declared.CheckFault.{CheckFault}
-use Rattle.bz_check.specs.declared.CheckFault.TheVariants as fault
-use Rattle.bz_check.specs.Stated.{stated_fraction}
+use Rattle.bz_judge.specs.declared.CheckFault.{CheckFault}
+use Rattle.bz_judge.specs.declared.CheckFault.TheVariants as fault
+use Rattle.bz_model.specs.Stated.{stated_fraction}
 use Rattle.bz_model.specs.declared.Model.{Model}
 use Rattle.bz_model.specs.Parting.{part_of, width_of}
 use Rattle.bz_model.specs.Splits.{Decomposition}

@@ -1,8 +1,8 @@
 //! The check of a certificate, from the files of a job.
 ghost use Rattle.std.specs.Prelude.{◌≤◌, length, IfErr, IfOk};
 ghost use Rattle.bz_cert.specs.Shapes.{IsShaped};
-ghost use Rattle.bz_check.specs.Fits.{Fits};
-ghost use Rattle.bz_check.specs.Passing.{Passes};
+ghost use Rattle.bz_cert.specs.Fits.{Fits};
+ghost use Rattle.bz_cert.specs.Passing.{Passes};
 ghost use Rattle.bz_io.specs.Desk.{IsSame};
 ghost use Rattle.bz_io.specs.Told.{WhereTold};
 ghost use Rattle.bz_model.specs.Splits.{IsSplit};

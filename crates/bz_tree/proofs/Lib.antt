@@ -1,3 +1,6 @@
 pub mod EndLists
+pub mod IntegerPositions
+pub mod LeafSides
 pub mod NarrowSides
+pub mod OneRoot
 pub mod OneTree

@@ -4,13 +4,17 @@
 #![tactic(auto)]
 
 mod boxes;
+mod integer_columns;
 mod laws;
+mod leaf_sides;
 mod records;
 mod rounding;
 mod sharing;
 
 pub use boxes::{root_box, split_box};
+pub use integer_columns::{integer_column, integer_positions};
 pub use laws::nodes_are_of_one_tree;
+pub use leaf_sides::{Side, Sides};
 pub use records::{Leaf, NodeBox, TreeNode};
 
 #[cfg(test)]

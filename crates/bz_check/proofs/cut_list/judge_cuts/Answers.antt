@@ -1,8 +1,8 @@
 use Rattle.std.proofs.Common.{arith}
 use Rattle.bz_cut.specs.CutTests.{cut_tests}
-use Rattle.bz_cut.specs.Tests.{answered}
+use Rattle.bz_first.specs.Tests.{answered}
 use Rattle.bz_check.specs.CheckTests.{fault_of_cut}
-use Rattle.bz_check.proofs.Reducing.{numbered_next, numbered_stop, numbered_end}
+use Rattle.bz_first.proofs.Numbered.{numbered_next, numbered_stop, numbered_end}
 use Rattle.bz_check.proofs.cut_list.judge_cuts.Goals as goal
 
 pub returns-in_err-judge_one : goal.returns-in_err-judge_one

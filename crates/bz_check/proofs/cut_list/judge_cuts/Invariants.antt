@@ -2,8 +2,8 @@
 use Rattle.std.proofs.Common.{drop}
 use Rattle.std.specs.List.{enumerate_from}
 use Rattle.bz_cut.specs.CutTests.{cut_tests}
-use Rattle.bz_cut.specs.Tests.{answered, each_of}
-use Rattle.bz_cut.proofs.TestLemmas.{Reduces}
+use Rattle.bz_first.specs.Tests.{answered, each_of}
+use Rattle.bz_first.proofs.TestLemmas.{Reduces}
 use Rattle.bz_check.specs.CheckTests.{cuts_tests, fault_of_cut}
 use Rattle.bz_check.proofs.cut_list.judge_cuts.Given as goal
 

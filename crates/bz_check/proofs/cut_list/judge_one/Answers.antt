@@ -2,9 +2,9 @@ use Rattle.std.proofs.Common.{List, subst, sym}
 use Rattle.bz_cut.specs.declared.faults.CutFault.{CutFault}
 use Rattle.bz_cut.specs.declared.CutFault.TheVariants.{Invalid, Wide}
 use Rattle.bz_cut.specs.CutTests.{cut_tests}
-use Rattle.bz_cut.specs.Tests.{IsFirstFault, Test, answered}
-use Rattle.bz_cut.proofs.TestLemmas.{answered_fault, answered_hold}
-use Rattle.bz_check.specs.declared.faults.CheckFault.{CheckFault}
+use Rattle.bz_first.specs.Tests.{IsFirstFault, Test, answered}
+use Rattle.bz_first.proofs.TestLemmas.{answered_fault, answered_hold}
+use Rattle.bz_judge.specs.declared.CheckFault.{CheckFault}
 use Rattle.bz_check.specs.CheckTests.{fault_of_cut}
 use Rattle.bz_check.proofs.cut_list.judge_one.Goals as goal
 

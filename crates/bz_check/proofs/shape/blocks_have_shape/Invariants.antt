@@ -1,8 +1,8 @@
 -- All that is left passes exactly where all pass.
 use Rattle.std.proofs.Common.{drop}
 use Rattle.std.specs.List.{enumerate_from}
-use Rattle.bz_check.specs.BlockShapes.{HasBlockShape}
-use Rattle.bz_check.proofs.Reducing.{Remains}
+use Rattle.bz_model.specs.PartPoints.{HasBlockShape}
+use Rattle.bz_first.proofs.Facts.{Remains}
 use Rattle.bz_check.proofs.shape.blocks_have_shape.Given as goal
 
 abbrev pub invariant-loop-place : goal.invariant-loop-place

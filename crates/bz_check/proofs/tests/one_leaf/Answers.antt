@@ -2,7 +2,8 @@ use Rattle.std.proofs.Common.{rules, ◌≡◌, refl, List, [], ◌∷◌, arith
 use Rattle.bz_tree.specs.declared.TreeNode.{TreeNode}
 use Rattle.bz_tree.specs.declared.Leaf.{Leaf}
 use Rattle.bz_tree.specs.Trees.{Tree}
-use Rattle.bz_cert.specs.Shapes.{AreNodes, IsNarrowLeaf}
+use Rattle.bz_cert.specs.Shapes.{AreNodes}
+use Rattle.bz_tree.specs.Narrow.{IsNarrowLeaf}
 use Rattle.bz_check.proofs.tests.one_leaf.Goals as goal
 
 one : (l : Leaf) → IsNarrowLeaf l → AreNodes (TreeNode.Leaf l ∷ [])

@@ -4,7 +4,8 @@ use Rattle.bz_algebra.specs.Numbers.{IsNarrow}
 use Rattle.bz_tree.specs.declared.TreeNode.{TreeNode}
 use Rattle.bz_tree.specs.declared.Leaf.{Leaf}
 use Rattle.bz_tree.specs.Trees.{Tree}
-use Rattle.bz_cert.specs.Shapes.{AreNodes, IsNarrowLeaf}
+use Rattle.bz_cert.specs.Shapes.{AreNodes}
+use Rattle.bz_tree.specs.Narrow.{IsNarrowLeaf}
 use Rattle.bz_check.proofs.tests.two_leaves.Goals as goal
 
 two : (right : ℤ) (below above : Leaf) → IsNarrow right → IsNarrowLeaf below → IsNarrowLeaf above → AreNodes (TreeNode.Split 0 (pos 0) right ∷ TreeNode.Leaf below ∷ TreeNode.Leaf above ∷ [])

@@ -1,12 +1,13 @@
 use Rattle.std.proofs.Common.{◌≡◌, [], ◌∷◌, ◌++◌, length}
-use Rattle.bz_cut.specs.Tests.{AllHold, test}
-use Rattle.bz_cut.proofs.TestLemmas.{all_joined, fault_behind, judges_then}
+use Rattle.bz_first.specs.Tests.{AllHold, test}
+use Rattle.bz_first.proofs.TestLemmas.{all_joined, fault_behind, judges_then}
 use Rattle.bz_tree.specs.Ends.{box_of}
-use Rattle.bz_pass.specs.PartPoints.{HasPointShape}
-use Rattle.bz_check.specs.declared.faults.CheckFault.{CheckFault}
-use Rattle.bz_check.specs.declared.faults.CheckFault.TheVariants as fault
-use Rattle.bz_check.specs.CheckTests.{Tests, point_tests, ray_tests}
-use Rattle.bz_check.proofs.Reducing.{stopped}
+use Rattle.bz_model.specs.PartPoints.{HasPointShape}
+use Rattle.bz_judge.specs.declared.CheckFault.{CheckFault}
+use Rattle.bz_judge.specs.declared.CheckFault.TheVariants as fault
+use Rattle.bz_judge.specs.PointTests.{Tests, point_tests}
+use Rattle.bz_judge.specs.RayTests.{ray_tests}
+use Rattle.bz_first.proofs.Chains.{stopped}
 use Rattle.bz_check.proofs.whole.judge_unbounded.Goals as goal
 
 pub returns-in_err-judge_point : goal.returns-in_err-judge_point

@@ -1,18 +1,19 @@
 use Rattle.std.proofs.Common.{arith, [], ◌∷◌, ◌++◌, to_z-of_z}
 use Rattle.std.specs.List.{enumerate_from}
-use Rattle.bz_cut.specs.Tests.{AllHold, IsFirstFault, each_of, test}
-use Rattle.bz_cut.proofs.TestLemmas.{all_joined, fault_behind, fault_in_front, judges_then}
+use Rattle.bz_first.specs.Tests.{AllHold, IsFirstFault, each_of, test}
+use Rattle.bz_first.proofs.TestLemmas.{all_joined, fault_behind, fault_in_front, judges_then}
 use Rattle.bz_tree.specs.Ends.{box_of}
-use Rattle.bz_pass.specs.PartPoints.{HasShape}
-use Rattle.bz_check.specs.declared.faults.CheckFault.{CheckFault}
-use Rattle.bz_check.specs.declared.faults.CheckFault.TheVariants as fault
-use Rattle.bz_check.specs.CheckTests.{Tests, cost_tests, point_tests, value_tests}
-use Rattle.bz_check.proofs.Reducing.{stopped}
+use Rattle.bz_model.specs.PartPoints.{HasShape}
+use Rattle.bz_judge.specs.declared.CheckFault.{CheckFault}
+use Rattle.bz_judge.specs.declared.CheckFault.TheVariants as fault
+use Rattle.bz_judge.specs.PointTests.{Tests, point_tests}
+use Rattle.bz_judge.specs.ValueTests.{cost_tests, value_tests}
+use Rattle.bz_first.proofs.Chains.{stopped}
 use Rattle.bz_check.proofs.whole.judge_value_of_point.Goals as goal
 
 pub judge_costs-requires-clause-few : goal.judge_costs-requires-clause-few
 judge_costs-requires-clause-few c =
-    rw c.as_slice.ensures (omega (arith, c.in_ok-judge_shape.ensures.0.blocks, c.in_ok-judge_point.ensures.split.partition.few))
+    rw c.as_slice.ensures (omega (arith, c.in_ok-judge_shape.ensures.0.point.blocks, c.in_ok-judge_point.ensures.split.partition.few))
 
 pub returns-in_err-judge_point : goal.returns-in_err-judge_point
 returns-in_err-judge_point c =

@@ -1,6 +1,6 @@
 use Rattle.bz_cut.specs.CutTests.{cut_tests}
 use Rattle.bz_cut.proofs.CutTold.{cut_told}
-use Rattle.bz_cut.proofs.TestLemmas.{judged}
+use Rattle.bz_first.proofs.TestLemmas.{judged}
 use Rattle.bz_cut.proofs.cuts.fits_and_valid.Goals as goal
 
 pub returns : goal.returns

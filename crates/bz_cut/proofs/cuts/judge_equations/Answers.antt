@@ -5,8 +5,8 @@ use Rattle.bz_model.specs.Parting.{width_of}
 use Rattle.bz_cut.specs.declared.faults.CutFault.{CutFault}
 use Rattle.bz_cut.specs.declared.faults.CutFault.TheVariants.{Wide}
 use Rattle.bz_cut.specs.CutTests.{master_tests, own_tests, rhs_tests}
-use Rattle.bz_cut.specs.Tests.{Test, each_below, test}
-use Rattle.bz_cut.proofs.TestLemmas.{all_joined, fault_behind, fault_in_front, judges_handed, judges_then}
+use Rattle.bz_first.specs.Tests.{Test, each_below, test}
+use Rattle.bz_first.proofs.TestLemmas.{all_joined, fault_behind, fault_in_front, judges_handed, judges_then}
 use Rattle.bz_cut.proofs.cuts.judge_equations.Goals as goal
 
 pub returns-in_err-judge_own : goal.returns-in_err-judge_own

@@ -1,6 +1,6 @@
 -- The equations so far hold.
 use Rattle.bz_cut.specs.CutTests.{master_tests}
-use Rattle.bz_cut.specs.Tests.{AllHold, each_below}
+use Rattle.bz_first.specs.Tests.{AllHold, each_below}
 use Rattle.bz_cut.proofs.cuts.judge_master.Given as goal
 
 abbrev pub invariant-loop-position : goal.invariant-loop-position

@@ -1,7 +1,7 @@
 use Rattle.std.proofs.Common.{◌≡◌, ◌<◌, rules, Err}
 use Rattle.bz_model.specs.Parting.{width_of}
 use Rattle.bz_cut.specs.CutTests.{own_tests}
-use Rattle.bz_cut.proofs.TestLemmas.{below_next, fault_at, judges_handed}
+use Rattle.bz_first.proofs.TestLemmas.{below_next, fault_at, judges_handed}
 use Rattle.bz_cut.proofs.cuts.judge_own.Goals as goal
 
 pub returns-in_err-judge_own_at : goal.returns-in_err-judge_own_at

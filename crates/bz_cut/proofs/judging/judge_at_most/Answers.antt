@@ -1,6 +1,6 @@
 use Rattle.std.proofs.Common.{rules, ◌≡◌, ◌*ℤ◌, FitsSigned, to_z-of_z}
 use Rattle.std.specs.Int.{w128}
-use Rattle.bz_cut.proofs.NarrowSums.{dot_where_ok}
+use Rattle.bz_num.proofs.NarrowSums.{dot_where_ok}
 use Rattle.bz_cut.proofs.SumTests.{order_judged}
 use Rattle.bz_cut.proofs.judging.judge_at_most.Goals as goal
 

@@ -1,5 +1,5 @@
 use Rattle.std.proofs.Common.{refl, inl}
-use Rattle.bz_cut.proofs.NarrowSums.{narrow_where_ok, wide_where_err}
+use Rattle.bz_num.proofs.NarrowSums.{narrow_where_ok, wide_where_err}
 use Rattle.bz_cut.proofs.judging.judge_fold.Goals as goal
 
 pub returns-in-Ok-clause-judges : goal.returns-in-Ok-clause-judges

@@ -1,6 +1,6 @@
 use Rattle.std.proofs.Common.{rules, ◌≡◌, ◌*ℤ◌, neg_ℤ, FitsSigned, to_z-of_z}
 use Rattle.std.specs.Int.{w128}
-use Rattle.bz_cut.proofs.NarrowSums.{dot_where_ok}
+use Rattle.bz_num.proofs.NarrowSums.{dot_where_ok}
 use Rattle.bz_cut.proofs.SumTests.{equation_judged}
 use Rattle.bz_cut.proofs.judging.judge_opposite.Goals as goal
 

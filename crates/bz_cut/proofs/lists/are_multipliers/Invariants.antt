@@ -1,6 +1,6 @@
 -- All that is left passes exactly where all pass.
 use Rattle.std.proofs.Common.{pos, ◌<◌, ◌<ℤ◌, drop}
-use Rattle.bz_cut.proofs.Steps.{Remains}
+use Rattle.bz_first.proofs.Facts.{Remains}
 use Rattle.bz_cut.proofs.lists.are_multipliers.Given as goal
 
 abbrev pub invariant-loop-entry : goal.invariant-loop-entry

@@ -1,6 +1,6 @@
 use Rattle.std.proofs.Common.{◌≡◌, subst, sym}
-use Rattle.bz_check.specs.Fits.{Fits}
-use Rattle.bz_check.specs.Passing.{Passes}
+use Rattle.bz_cert.specs.Fits.{Fits}
+use Rattle.bz_cert.specs.Passing.{Passes}
 use Rattle.bz_model.specs.Splits.{IsSplit}
 use Rattle.bz_top.specs.declared.said.Holding.{Holding}
 use Rattle.bz_top.specs.declared.status.File.TheVariants.{Cert as CertFile}

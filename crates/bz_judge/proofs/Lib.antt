@@ -1,0 +1,9 @@
+pub mod BetweenTests
+pub mod CostSums
+pub mod Decided
+pub mod FoundSums
+pub mod LaterEntries
+pub mod LeavesTold
+pub mod PointsTold
+pub mod RayCosts
+pub mod WholeQuotients

@@ -1,0 +1,10 @@
+pub mod IntegerTests
+pub mod Laws
+pub mod LeafTests
+pub mod LeftSides
+pub mod PointTests
+pub mod RayTests
+pub mod SideNumbers
+pub mod Sums
+pub mod ValueTests
+pub mod WideLists

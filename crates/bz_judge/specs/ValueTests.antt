@@ -1,0 +1,33 @@
+-- The tests of the blocks' costs and of the value at a point of the parts, in their order.
+use Rattle.std.specs.Prelude.{ℕ, ℤ, ◌≡◌, ◌+ℤ◌, ◌*ℤ◌, ◌≤ℤ◌, List, [], ◌∷◌}
+use Rattle.bz_algebra.specs.Numbers.{IsNarrow}
+use Rattle.bz_algebra.specs.Sums.{dot}
+use Rattle.bz_num.specs.Fold.{IsNarrowSum}
+use Rattle.bz_model.specs.declared.BlockPart.{BlockPart}
+use Rattle.bz_model.specs.declared.Master.{Master}
+use Rattle.bz_model.specs.declared.Model.{Model}
+use Rattle.bz_model.specs.Parting.{inner_cost, terms_in}
+use Rattle.bz_model.specs.PartPoints.{eta_of, total}
+use Rattle.bz_model.specs.Points.{coordinate}
+use Rattle.bz_model.specs.PointSums.{row_pairs, stated_pairs, value_pairs}
+use Rattle.bz_first.specs.Tests.{test}
+use Rattle.bz_judge.specs.declared.faults.CheckFault.TheVariants as fault
+use Rattle.bz_judge.specs.PointTests.{Tests}
+use Rattle.bz_judge.specs.WideLists.{cost_sums, stated_numbers, value_sum}
+
+-- block b: its inner cost, its eta times `times`, and that the one is at most the other
+abbrev pub cost_tests : Model → List ℕ → Master → ℕ × BlockPart → Tests
+cost_tests m part master e =
+    test (fault.Wide cost_sums e.0) (IsNarrowSum (row_pairs (terms_in part e.0 (inner_cost m)) e.1.y))
+    ∷ test (fault.Wide cost_sums e.0) (IsNarrow (eta_of master e.0 *ℤ e.1.times))
+    ∷ test (fault.Cost e.0) (dot (terms_in part e.0 (inner_cost m)) (coordinate e.1.y) ≤ℤ (eta_of master e.0 *ℤ e.1.times))
+    ∷ []
+
+-- the value is the master's inner cost with the etas, and the objective that it states is not wide
+abbrev pub value_tests : Model → List ℕ → Master → ℤ → Tests
+value_tests m part master value =
+    test (fault.Wide value_sum 0) (IsNarrowSum (value_pairs (terms_in part 0 (inner_cost m)) master))
+    ∷ test fault.Value (value ≡ dot (terms_in part 0 (inner_cost m)) (coordinate master.x) +ℤ total master.eta)
+    ∷ test (fault.Wide stated_numbers 0) (IsNarrowSum (stated_pairs m value master.den))
+    ∷ test (fault.Wide stated_numbers 1) (IsNarrow (m.scale *ℤ master.den))
+    ∷ []

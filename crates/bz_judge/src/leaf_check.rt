@@ -1,0 +1,136 @@
+//! Whether a leaf holds over the sides of a box.
+ghost use Rattle.std.specs.Prelude.{◌≡◌, ◌<◌, ◌*ℤ◌, ◌≤ℤ◌, ◌<ℤ◌, ◌↔◌, pos, length, IsTrue};
+ghost use Rattle.bz_model.specs.Parting.{blocks_of, width_of};
+ghost use Rattle.bz_cut.specs.Rows.{AreMultipliers};
+ghost use Rattle.bz_first.specs.Tests.{Judges, each_below};
+ghost use Rattle.bz_tree.specs.Narrow.{IsNarrowLeaf};
+ghost use Rattle.bz_judge.specs.LeafTests.{leaf_bound_tests, leaf_eta_tests, leaf_form_tests, leaf_master_tests, leaf_rhs_tests, leaf_tests};
+ghost use Rattle.bz_tree.specs.LeafSides.{AreSides, sides_in};
+
+use crate::faults::{CheckFault, LEAF_SUMS, wide_in};
+use crate::leaf_sums::{Place, side_sum};
+use bz_cut::{are_multipliers, inner_cost_at, judge_opposite, judge_sum, width};
+use bz_first::{judge, judge_order};
+use bz_model::Split;
+use bz_num::narrow_negation;
+use bz_tree::{Leaf, Sides};
+
+/// Tests that the multipliers are positive numbers at places of the sides, and that delta isn't negative.
+fn judge_form(sides: &Sides, node: u32, leaf: &Leaf) -> Result<(), CheckFault>
+    requires { AreSides sides.now }
+    ensures { Judges (leaf_form_tests (sides_in sides.now) node leaf.now) result }
+{
+    let broken = CheckFault::Leaf { node };
+    judge(are_multipliers(&leaf.lambda, sides.count()), broken)?;
+    judge_order(0, leaf.delta, broken)
+}
+
+/// Tests the equation on a position of the master.
+fn judge_position(
+    split: &Split,
+    sides: &Sides,
+    node: u32,
+    leaf: &Leaf,
+    position: u32,
+) -> Result<(), CheckFault>
+    requires sides { AreSides sides.now }
+    requires lambda { AreMultipliers (length (sides_in sides.now)) leaf.now.lambda }
+    requires position { position < width_of split.now.part 0 }
+    ensures { Judges (leaf_master_tests split.now.model split.now.part (sides_in sides.now) node leaf.now position) result }
+{
+    let sum = side_sum(sides, &leaf.lambda, Place::Master(position));
+    let cost = inner_cost_at(split, 0, position);
+    judge_opposite(
+        sum,
+        leaf.delta,
+        cost,
+        CheckFault::Leaf { node },
+        wide_in(LEAF_SUMS, node),
+    )
+}
+
+/// Tests the equations on the master's positions.
+fn judge_positions(split: &Split, sides: &Sides, node: u32, leaf: &Leaf) -> Result<(), CheckFault>
+    requires sides { AreSides sides.now }
+    requires lambda { AreMultipliers (length (sides_in sides.now)) leaf.now.lambda }
+    ensures { Judges (each_below (width_of split.now.part 0) (leaf_master_tests split.now.model split.now.part (sides_in sides.now) node leaf.now)) result }
+{
+    for position in 0..width(split, 0) {
+        judge_position(split, sides, node, leaf, position)?;
+    }
+    Ok(())
+}
+
+/// Tests the sum on an eta.
+fn judge_eta(sides: &Sides, node: u32, leaf: &Leaf, eta: u32) -> Result<(), CheckFault>
+    requires sides { AreSides sides.now }
+    requires lambda { AreMultipliers (length (sides_in sides.now)) leaf.now.lambda }
+    requires narrow { IsNarrowLeaf leaf.now }
+    ensures { Judges (leaf_eta_tests (sides_in sides.now) node leaf.now eta) result }
+{
+    let sum = side_sum(sides, &leaf.lambda, Place::Eta(eta));
+    let turned = narrow_negation(leaf.delta);
+    judge_sum(
+        sum,
+        turned,
+        CheckFault::Leaf { node },
+        wide_in(LEAF_SUMS, node),
+    )
+}
+
+/// Tests the sums on the etas.
+fn judge_etas(split: &Split, sides: &Sides, node: u32, leaf: &Leaf) -> Result<(), CheckFault>
+    requires sides { AreSides sides.now }
+    requires lambda { AreMultipliers (length (sides_in sides.now)) leaf.now.lambda }
+    requires narrow { IsNarrowLeaf leaf.now }
+    ensures { Judges (each_below (blocks_of split.now.part) (leaf_eta_tests (sides_in sides.now) node leaf.now)) result }
+{
+    for eta in 0..split.blocks() {
+        judge_eta(sides, node, leaf, eta)?;
+    }
+    Ok(())
+}
+
+/// Tests the sum of the right sides.
+fn judge_right_sides(sides: &Sides, node: u32, leaf: &Leaf) -> Result<(), CheckFault>
+    requires sides { AreSides sides.now }
+    requires lambda { AreMultipliers (length (sides_in sides.now)) leaf.now.lambda }
+    requires narrow { IsNarrowLeaf leaf.now }
+    ensures { Judges (leaf_rhs_tests (sides_in sides.now) node leaf.now) result }
+{
+    let sum = side_sum(sides, &leaf.lambda, Place::Right);
+    let turned = narrow_negation(leaf.bound);
+    judge_sum(
+        sum,
+        turned,
+        CheckFault::Leaf { node },
+        wide_in(LEAF_SUMS, node),
+    )
+}
+
+/// Whether the bound of an empty leaf is positive.
+fn is_positive_where_empty(leaf: &Leaf) -> bool
+    ensures { IsTrue result ↔ (leaf.now.delta ≡ pos 0 → pos 0 <ℤ leaf.now.bound) }
+{
+    leaf.delta != 0 || 0 < leaf.bound
+}
+
+/// Tests the sign of an empty leaf's bound.
+fn judge_bound(node: u32, leaf: &Leaf) -> Result<(), CheckFault>
+    ensures { Judges (leaf_bound_tests node leaf.now) result }
+{
+    judge(is_positive_where_empty(leaf), CheckFault::Leaf { node })
+}
+
+/// Tests that the leaf at the node holds over the sides. It takes no memory.
+pub fn judge_leaf(split: &Split, sides: &Sides, node: u32, leaf: &Leaf) -> Result<(), CheckFault>
+    requires sides { AreSides sides.now }
+    requires narrow { IsNarrowLeaf leaf.now }
+    ensures { Judges (leaf_tests split.now.model split.now.part (sides_in sides.now) node leaf.now) result }
+{
+    judge_form(sides, node, leaf)?;
+    judge_positions(split, sides, node, leaf)?;
+    judge_etas(split, sides, node, leaf)?;
+    judge_right_sides(sides, node, leaf)?;
+    judge_bound(node, leaf)
+}

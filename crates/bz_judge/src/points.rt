@@ -1,0 +1,153 @@
+//! Whether the inequalities of the master and of the blocks hold at a certificate's point.
+ghost use Rattle.std.specs.Prelude.{◌≡◌, ◌<◌, ◌≤◌, ◌^◌, pos, ◌+ℤ◌, ◌*ℤ◌, [], ◌∷◌, IfOk, length, map};
+ghost use Rattle.std.specs.List.{AllByRecursion, enumerate_from};
+ghost use Rattle.bz_algebra.specs.Sums.{AllBelow};
+ghost use Rattle.bz_num.specs.Fold.{IsNarrowSum};
+ghost use Rattle.bz_model.specs.Parting.{blocks_of, inequalities_of, integers_of, position_of, width_of};
+ghost use Rattle.bz_model.specs.Splits.{IsSplit};
+ghost use Rattle.bz_first.specs.Tests.{Judges, each_of, test};
+ghost use Rattle.bz_judge.specs.PointTests.{block_tests, in_block_tests, in_master_tests, point_tests};
+ghost use Rattle.bz_tree.specs.Boxes.{IsRootBox};
+ghost use Rattle.bz_tree.specs.Ends.{box_of};
+ghost use Rattle.bz_model.specs.PartPoints.{HasPointShape, HasBlockShape};
+ghost use Rattle.bz_judge.specs.LeftSides.{FitsLengths, left_side_of, left_side_tests};
+
+use crate::faults::{BLOCK_DENOMINATOR, BLOCK_SUMS, CheckFault, MASTER_SUMS, wide_in};
+use crate::integers::judge_integers;
+use crate::numbers::{sum_at, sum_of};
+use bz_cut::{judge_at_most, judge_product, row_sum};
+use bz_model::{BlockPart, Ineq, Master, Parts, Split};
+use bz_tree::NodeBox;
+
+/// Whether inequality `n` holds at the master's point.
+fn judge_in_master(master: &Master, n: u32, row: &Ineq) -> Result<(), CheckFault>
+    requires { AllBelow (length master.now.x) row.now.own }
+    ensures { Judges (in_master_tests master.now (n, row.now)) result }
+{
+    let sum = row_sum(&row.own, master.x.as_slice());
+    let broken = CheckFault::Point { part: 0, at: n };
+    let wide = wide_in(MASTER_SUMS, n);
+    judge_at_most(sum, row.rhs, master.den, broken, wide)
+}
+
+/// Whether all inequalities hold at the master's point.
+pub fn judge_master_rows(master: &Master, rows: &[Ineq]) -> Result<(), CheckFault>
+    requires few { length rows.now < 2 ^ 32 }
+    requires within { AllByRecursion (λ i. AllBelow (length master.now.x) i.own) rows.now }
+    ensures { Judges (each_of (in_master_tests master.now) (enumerate_from 0 rows.now)) result }
+{
+    for (n, row) in rows.iter().enumerate() {
+        judge_in_master(master, n as u32, row)?;
+    }
+    Ok(())
+}
+
+/// `times` times the one number and the other one together, or the fault where that is wide.
+fn joined(times: i128, a: i128, b: i128, wide: CheckFault) -> Result<i128, CheckFault>
+    ensures judges { Judges (test wide (IsNarrowSum ((times, a) ∷ (pos 1, b) ∷ [])) ∷ []) result }
+    ensures value { IfOk result (λ sum. sum ≡ (times *ℤ a) +ℤ b) }
+{
+    sum_of(&[(times, a), (1, b)], wide)
+}
+
+/// The left side of a block's inequality at the point, times the master's denominator and `times`; or the fault where
+/// a sum is wide.
+fn left_side(
+    master: &Master,
+    block: &BlockPart,
+    row: &Ineq,
+    wide: CheckFault,
+) -> Result<i128, CheckFault>
+    requires { FitsLengths (length master.now.x) (length block.now.y) row.now }
+    ensures judges { Judges (left_side_tests wide master.now block.now row.now) result }
+    ensures value { IfOk result (λ sum. sum ≡ left_side_of master.now block.now row.now) }
+{
+    let in_master = sum_at(&row.master, master.x.as_slice(), wide)?;
+    let in_block = sum_at(&row.own, block.y.as_slice(), wide)?;
+    joined(block.times, in_master, in_block, wide)
+}
+
+/// Whether inequality `n` of block `b` holds, where `den` is the block's denominator.
+fn judge_in_block(
+    master: &Master,
+    b: u32,
+    block: &BlockPart,
+    den: i128,
+    n: u32,
+    row: &Ineq,
+) -> Result<(), CheckFault>
+    requires fits { FitsLengths (length master.now.x) (length block.now.y) row.now }
+    requires den { den ≡ master.now.den *ℤ block.now.times }
+    ensures { Judges (in_block_tests master.now b block.now (n, row.now)) result }
+{
+    let wide = wide_in(BLOCK_SUMS, n);
+    let sum = left_side(master, block, row, wide)?;
+    let side = judge_product(row.rhs, den, wide)?;
+    if sum > side {
+        return Err(CheckFault::Point { part: b, at: n });
+    }
+    Ok(())
+}
+
+/// Whether all inequalities of block `b` hold, where `den` is the block's denominator.
+fn judge_block_rows(
+    master: &Master,
+    b: u32,
+    block: &BlockPart,
+    den: i128,
+    rows: &[Ineq],
+) -> Result<(), CheckFault>
+    requires few { length rows.now < 2 ^ 32 }
+    requires fits { AllByRecursion (FitsLengths (length master.now.x) (length block.now.y)) rows.now }
+    requires den { den ≡ master.now.den *ℤ block.now.times }
+    ensures { Judges (each_of (in_block_tests master.now b block.now) (enumerate_from 0 rows.now)) result }
+{
+    for (n, row) in rows.iter().enumerate() {
+        judge_in_block(master, b, block, den, n as u32, row)?;
+    }
+    Ok(())
+}
+
+/// Whether block `b` holds at the point.
+pub fn judge_block(split: &Split, master: &Master, b: u32, block: &BlockPart) -> Result<(), CheckFault>
+    requires block { b ≤ blocks_of split.now.part }
+    requires x { length master.now.x ≡ width_of split.now.part 0 }
+    requires y { length block.now.y ≡ width_of split.now.part b }
+    ensures { Judges (block_tests split.now.model split.now.part master.now (b, block.now)) result }
+{
+    let den = judge_product(master.den, block.times, wide_in(BLOCK_DENOMINATOR, b))?;
+    judge_block_rows(master, b, block, den, split.inequalities(b))
+}
+
+/// Whether all blocks hold at the point.
+pub fn judge_blocks(split: &Split, master: &Master, blocks: &[BlockPart]) -> Result<(), CheckFault>
+    requires count { length blocks.now ≡ blocks_of split.now.part }
+    requires few { length blocks.now ≤ 256 }
+    requires x { length master.now.x ≡ width_of split.now.part 0 }
+    requires shapes { AllByRecursion (HasBlockShape split.now.part) (enumerate_from 1 blocks.now) }
+    ensures { Judges (each_of (block_tests split.now.model split.now.part master.now) (enumerate_from 1 blocks.now)) result }
+{
+    for (place, block) in blocks.iter().enumerate() {
+        judge_block(split, master, place as u32 + 1, block)?;
+    }
+    Ok(())
+}
+
+/// Tests that the point of the parts is feasible, whatever its etas are: the master's inequalities, then the integer
+/// columns, whose positions in the master are given in file order, and then block by block.
+pub fn judge_point(
+    split: &Split,
+    root: &NodeBox,
+    positions: &[u32],
+    parts: &Parts,
+) -> Result<(), CheckFault>
+    requires shape { HasPointShape split.now.model split.now.part parts.now }
+    requires root { IsRootBox split.now.model (box_of root.now) }
+    requires positions { positions.now ≡ map (λ e. position_of split.now.part e.0) (integers_of split.now.model) }
+    ensures judges { Judges (point_tests split.now.model split.now.part (box_of root.now) parts.now) result }
+    ensures split { IsSplit split.now }
+{
+    judge_master_rows(&parts.master, split.inequalities(0))?;
+    judge_integers(split, &parts.master, root, positions)?;
+    judge_blocks(split, &parts.master, parts.blocks.as_slice())
+}

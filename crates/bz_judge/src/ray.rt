@@ -1,0 +1,156 @@
+//! Whether the objective improves without end along a certificate's direction.
+ghost use Rattle.std.specs.Prelude.{◌≡◌, ◌↔◌, ◌<◌, ◌^◌, pos, ◌<ℤ◌, ◌≤ℤ◌, [], ◌∷◌, IfSome, IfOk, IsTrue, length};
+ghost use Rattle.std.specs.List.{AllByRecursion, enumerate_from};
+ghost use Rattle.bz_algebra.specs.Sums.{AllBelow, dot};
+ghost use Rattle.bz_num.specs.Fold.{IsNarrowSum, fold_of};
+ghost use Rattle.bz_model.specs.Parting.{inner_cost};
+ghost use Rattle.bz_model.specs.Points.{coordinate};
+ghost use Rattle.bz_first.specs.Tests.{Judges, each_of, test};
+ghost use Rattle.bz_model.specs.Rays.{RowAllows};
+ghost use Rattle.bz_judge.specs.RayTests.{ray_bound_tests, ray_cost_tests, ray_integer_tests, ray_row_tests, ray_tests};
+ghost use Rattle.bz_model.specs.PointSums.{row_pairs};
+
+use crate::faults::{CheckFault, RAY_SUMS, wide_in};
+use crate::numbers::sum_at;
+use bz_cut::{inner_number, judge_fold};
+use bz_model::{Column, Model, Row, Split};
+use bz_num::{Folding, WideSum};
+
+/// Tests that column `j` stays where it is, if it is an integer.
+fn judge_integer(j: usize, column: &Column, ray: &[i128]) -> Result<(), CheckFault>
+    requires { j < length ray.now }
+    ensures { Judges (ray_integer_tests ray.now (j, column.now)) result }
+{
+    if column.integer && ray[j] != 0 {
+        return Err(CheckFault::Ray);
+    }
+    Ok(())
+}
+
+/// Tests that the integer columns stay where they are.
+fn judge_integers(columns: &[Column], ray: &[i128]) -> Result<(), CheckFault>
+    requires { length ray.now ≡ length columns.now }
+    ensures { Judges (each_of (ray_integer_tests ray.now) (enumerate_from 0 columns.now)) result }
+{
+    for (j, column) in columns.iter().enumerate() {
+        judge_integer(j, column, ray)?;
+    }
+    Ok(())
+}
+
+/// Whether a step keeps the bounds that are there.
+fn is_free(lower: bool, upper: bool, step: i128) -> bool
+    ensures { IsTrue result ↔ ((IsTrue lower → pos 0 ≤ℤ step) × (IsTrue upper → step ≤ℤ pos 0)) }
+{
+    (!lower || 0 <= step) && (!upper || step <= 0)
+}
+
+/// Whether a step keeps the row's sides.
+fn row_allows(row: &Row, step: i128) -> bool
+    ensures { IsTrue result ↔ (IfSome row.now.lower (λ l. pos 0 ≤ℤ step) × IfSome row.now.upper (λ u. step ≤ℤ pos 0)) }
+{
+    is_free(row.lower.is_some(), row.upper.is_some(), step)
+}
+
+/// Whether a step keeps the column's bounds.
+fn column_allows(column: &Column, step: i128) -> bool
+    ensures { IsTrue result ↔ (IfSome column.now.lower (λ f. pos 0 ≤ℤ step) × IfSome column.now.upper (λ f. step ≤ℤ pos 0)) }
+{
+    is_free(column.lower.is_some(), column.upper.is_some(), step)
+}
+
+/// Tests that the sum of row `r` along the direction is not wide, and keeps the row's sides.
+fn judge_row(r: u32, row: &Row, ray: &[i128]) -> Result<(), CheckFault>
+    requires { AllBelow (length ray.now) row.now.terms }
+    ensures { Judges (ray_row_tests ray.now (r, row.now)) result }
+{
+    let sum = sum_at(&row.terms, ray, wide_in(RAY_SUMS, r))?;
+    if !row_allows(row, sum) {
+        return Err(CheckFault::Ray);
+    }
+    Ok(())
+}
+
+/// Tests that the direction keeps the sides of all rows.
+pub fn judge_rows(rows: &[Row], ray: &[i128]) -> Result<(), CheckFault>
+    requires few { length rows.now < 2 ^ 32 }
+    requires within { AllByRecursion (λ row. AllBelow (length ray.now) row.terms) rows.now }
+    ensures { Judges (each_of (ray_row_tests ray.now) (enumerate_from 0 rows.now)) result }
+{
+    for (r, row) in rows.iter().enumerate() {
+        judge_row(r as u32, row, ray)?;
+    }
+    Ok(())
+}
+
+/// Tests that the direction keeps the bounds of column `j`.
+fn judge_bound(j: usize, column: &Column, ray: &[i128]) -> Result<(), CheckFault>
+    requires { j < length ray.now }
+    ensures { Judges (ray_bound_tests ray.now (j, column.now)) result }
+{
+    if !column_allows(column, ray[j]) {
+        return Err(CheckFault::Ray);
+    }
+    Ok(())
+}
+
+/// Tests that the direction keeps the bounds of all columns.
+fn judge_bounds(columns: &[Column], ray: &[i128]) -> Result<(), CheckFault>
+    requires { length ray.now ≡ length columns.now }
+    ensures { Judges (each_of (ray_bound_tests ray.now) (enumerate_from 0 columns.now)) result }
+{
+    for (j, column) in columns.iter().enumerate() {
+        judge_bound(j, column, ray)?;
+    }
+    Ok(())
+}
+
+/// The inner cost along the direction, or its first wide place.
+fn ray_cost(model: &Model, ray: &[i128]) -> Result<i128, WideSum>
+    requires { AllBelow (length ray.now) model.now.cost }
+    ensures { result ≡ fold_of (row_pairs (inner_cost model.now) ray.now) }
+{
+    let mut folding = Folding::new();
+    for entry in model.cost.as_slice() {
+        let number = inner_number(model.maximise, entry.1);
+        folding.push(number, ray[entry.0 as usize])?;
+    }
+    Ok(folding.sum())
+}
+
+/// The inner cost along the direction, or the fault where it is wide.
+fn cost_along(model: &Model, ray: &[i128], wide: CheckFault) -> Result<i128, CheckFault>
+    requires { AllBelow (length ray.now) model.now.cost }
+    ensures judges { Judges (test wide (IsNarrowSum (row_pairs (inner_cost model.now) ray.now)) ∷ []) result }
+    ensures value { IfOk result (λ sum. sum ≡ dot (inner_cost model.now) (coordinate ray.now)) }
+{
+    judge_fold(ray_cost(model, ray), wide)
+}
+
+/// Tests that the inner cost along the direction is not wide, and falls.
+fn judge_ray_cost(model: &Model, ray: &[i128]) -> Result<(), CheckFault>
+    requires few { length model.now.rows < 2 ^ 32 }
+    requires within { AllBelow (length ray.now) model.now.cost }
+    ensures { Judges (ray_cost_tests model.now ray.now) result }
+{
+    let at = model.rows.as_slice().len() as u32;
+    let cost = cost_along(model, ray, wide_in(RAY_SUMS, at))?;
+    if cost >= 0 {
+        return Err(CheckFault::Ray);
+    }
+    Ok(())
+}
+
+/// Tests that the objective improves without end along the direction.
+pub fn judge_ray(split: &Split, ray: &[i128]) -> Result<(), CheckFault>
+    requires few { length split.now.model.rows < 2 ^ 32 }
+    requires numbers { length ray.now ≡ length split.now.model.columns }
+    ensures { Judges (ray_tests split.now.model ray.now) result }
+{
+    let model = split.model();
+    let columns = model.columns.as_slice();
+    judge_integers(columns, ray)?;
+    judge_rows(model.rows.as_slice(), ray)?;
+    judge_bounds(columns, ray)?;
+    judge_ray_cost(model, ray)
+}
