@@ -1,7 +1,14 @@
 pub mod Decomposed
+pub mod Limits
 pub mod Meeting
 pub mod PartLists
 pub mod PartPoints
 pub mod Parting
 pub mod PointFits
 pub mod PointSums
+pub mod Points
+pub mod Rays
+pub mod Splits
+pub mod Stated
+pub mod Strict
+pub mod Worked

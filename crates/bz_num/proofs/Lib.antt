@@ -10,3 +10,8 @@ pub mod Divisors
 pub mod Folds
 pub mod Lowest
 pub mod NarrowSums
+pub mod Pushed
+pub mod Quotients
+pub mod Reduces
+pub mod Rounding
+pub mod Rows
