@@ -1,3 +1,5 @@
 pub mod EndLists
+pub mod MoreCuts
 pub mod NarrowSides
 pub mod OneTree
+pub mod SplitBoxes

@@ -1,4 +1,5 @@
 pub mod Boxes
 pub mod Ends
+pub mod Laws
 pub mod Leaves
 pub mod Trees

@@ -10,7 +10,7 @@ mod rounding;
 mod sharing;
 
 pub use boxes::{root_box, split_box};
-pub use laws::nodes_are_of_one_tree;
+pub use laws::{leaves_keep, nodes_are_of_one_tree, splits_cover};
 pub use records::{Leaf, NodeBox, TreeNode};
 
 #[cfg(test)]
