@@ -1,16 +1,14 @@
 -- Certificates from what was read, by the verdict.
 use Rattle.std.proofs.Common.{◌≡◌, ◌≢◌, ◌∷◌, ◌++◌, ◌∙◌, [], ℕ, suc, ◌+◌, add-zero, ℤ, pos, List, Some, None, inl, inr, ap, sym, refl, subst, arith, append-nil, append_assoc, length, map}
 use Rattle.std.specs.List.{AllByRecursion}
-use Rattle.bz_algebra.specs.Numbers.{IsNarrow}
-use Rattle.bz_num.specs.Row.{IsSparseFrom}
 use Rattle.bz_model.specs.declared.BlockPart.{BlockPart}
+use Rattle.bz_model.specs.declared.Master.{Master}
 use Rattle.bz_cut.specs.declared.Cut.{Cut}
 use Rattle.bz_tree.specs.declared.TreeNode.{TreeNode}
 use Rattle.bz_cert.specs.declared.records.Certificate.{Certificate}
 use Rattle.bz_cert.specs.declared.records.Verdict.{Verdict}
 use Rattle.bz_cert.specs.declared.words.Word.{Word}
 use Rattle.bz_cert.specs.Shapes.{AreCuts, AreNodes, IsNarrowNode}
-use Rattle.bz_cut.specs.Narrow.{IsNarrowCut}
 use Rattle.bz_cert.specs.CertText.{CertLine, IsWritableCut, IsWritableNode, block_lines, bound_lines, cut_line, laid_out, line_with, node_line}
 use Rattle.bz_cert.specs.CertFaults.{BreaksTree, IsIn, Passes, Standing}
 use Rattle.bz_cert.specs.CertReading.{Awaits, PassFrom, Reads, ReadsLine, advance, advance_all}
@@ -27,33 +25,10 @@ pass_apart verdict before (l ∷ ls) ms h =
     let later : PassFrom verdict (advance before l) ls × PassFrom verdict (advance_all (advance before l) ls) ms = pass_apart verdict (advance before l) ls ms h.1 in
     ((h.0, later.0), later.1)
 
--- no number of the values of a sparse list is wide
-pub sparse_narrow : (low : ℕ) (es : List (ℕ × ℤ)) → IsSparseFrom low es → AllByRecursion (λ e. IsNarrow e.1) es
-sparse_narrow low [] h = tt
-sparse_narrow low (e ∷ es) h = (h.0.narrow, sparse_narrow (suc e.0) es h.1)
-
-blocks_narrow : (verdict : Verdict) (before : Standing) (first : ℕ) (parts : List BlockPart) → PassFrom verdict before (block_lines first parts) →
-    AllByRecursion (λ block. IsNarrow block.times × AllByRecursion IsNarrow block.y) parts
-blocks_narrow verdict before first [] h = tt
-blocks_narrow verdict before first (part ∷ parts) h = ((h.0.narrow.1.0, h.0.narrow.1.1), blocks_narrow verdict (advance before (line_with Word.Block (pos first ∷ part.times ∷ part.y))) (first + 1) parts h.1)
-
-pub cuts_narrow : (verdict : Verdict) (before : Standing) (cuts : List Cut) → PassFrom verdict before (map cut_line cuts) → AllByRecursion IsWritableCut cuts →
-    AllByRecursion IsNarrowCut cuts
-cuts_narrow verdict before [] h w = tt
-cuts_narrow verdict before (cut ∷ cuts) h w = (
-  record {
-    p0 = h.0.narrow.1.0;
-    beta = h.0.narrow.1.1.0;
-    gcd = h.0.narrow.1.1.1.0;
-    alpha = sparse_narrow 0 cut.alpha w.0.alpha.sparse;
-    mu = sparse_narrow 0 cut.mu w.0.mu.sparse;
-  },
-  cuts_narrow verdict (advance before (cut_line cut)) cuts h.1 w.1,
-)
-
+-- neither number of a split is wide
 pub node_narrow : (verdict : Verdict) (before : Standing) (node : TreeNode) → Passes verdict before (node_line node) → IsWritableNode node → IsNarrowNode node
 node_narrow verdict before (TreeNode.Split position left right) h w = (h.narrow.1.0, h.narrow.1.1.0)
-node_narrow verdict before (TreeNode.Leaf leaf) h w = record { delta = h.narrow.0; bound = h.narrow.1.0; lambda = sparse_narrow 0 leaf.lambda w.sparse }
+node_narrow verdict before (TreeNode.Leaf leaf) h w = tt
 
 nodes_narrow : (verdict : Verdict) (before : Standing) (nodes : List TreeNode) → PassFrom verdict before (map node_line nodes) → AllByRecursion IsWritableNode nodes →
     AllByRecursion IsNarrowNode nodes
@@ -67,7 +42,7 @@ bound_shaped verdict before cuts tree n r h pass =
     let lists : PassFrom verdict (advance before (line_with Word.Cuts (pos (length cuts) ∷ []))) (map cut_line cuts ++ map node_line tree) × PassFrom verdict _ (line_with Word.End [] ∷ []) =
     pass_apart verdict (advance before (line_with Word.Cuts (pos (length cuts) ∷ []))) (map cut_line cuts ++ map node_line tree) (line_with Word.End [] ∷ []) pass.1 in
     let both = pass_apart verdict (advance before (line_with Word.Cuts (pos (length cuts) ∷ []))) (map cut_line cuts) (map node_line tree) lists.0 in (
-      record { few = h.few_cuts; narrow = cuts_narrow verdict _ cuts both.0 h.writable_cuts },
+      h.few_cuts,
       record { few = h.few_nodes; narrow = nodes_narrow verdict _ tree both.1 h.writable_nodes; tree = h.whole; is_tree = h.is_tree },
     )
 
@@ -162,44 +137,39 @@ optimal_bound den x eta parts value =
     (behind_blocks (advance_all start (front_of_optimum den x eta)) parts value refl refl refl refl)
 
 -- the certificate of an optimum
-abbrev pub optimum : ℤ → List ℤ → List ℤ → List BlockPart → ℤ → List Cut → List TreeNode → Certificate
-optimum den x eta parts value cuts tree = record {
+abbrev pub optimum : Master → List BlockPart → ℤ → List Cut → List TreeNode → Certificate
+optimum master parts value cuts tree = record {
   verdict = Verdict.Optimal;
-  parts = Some (record { master = record { den = den; x = x; eta = eta }; blocks = parts });
+  parts = Some (record { master = master; blocks = parts });
   value = value;
   ray = [];
   cuts = cuts;
   tree = tree;
 }
 
-pub optimal_body : (den : ℤ) (x eta : List ℤ) (parts : List BlockPart) (value : ℤ) (cuts : List Cut) (tree : List TreeNode) (n : ℕ) (r : List ℕ) (n1 : ℕ) (r1 : List ℕ)
-    (n2 : ℕ) (r2 : List ℕ) (n3 : ℕ) (r3 : List ℕ) → ReadsLine n r (first_of_point den x) n1 r1 → ReadsLine n1 r1 (line_with Word.Eta eta) n2 r2 →
-    ReadsBlocksTo (value_line value) parts n2 r2 n3 r3 → ReadsBound cuts tree n3 r3 → ReadsBody Verdict.Optimal r (optimum den x eta parts value cuts tree)
-optimal_body den x eta parts value cuts tree n r n1 r1 n2 r2 n3 r3 h k b bound =
-    let front : Reads Verdict.Optimal start (optimum_lines den x eta parts value) n r n3 r3 = value_read den x eta parts value n r n1 r1 n2 r2 n3 r3 h k b in
-    let rest = bound.reads Verdict.Optimal _ (optimal_bound den x eta parts value) in
+pub optimal_body : (master : Master) (parts : List BlockPart) (value : ℤ) (cuts : List Cut) (tree : List TreeNode) (n : ℕ) (r : List ℕ) (n1 : ℕ) (r1 : List ℕ)
+    (n2 : ℕ) (r2 : List ℕ) (n3 : ℕ) (r3 : List ℕ) → ReadsLine n r (first_of_point master.den master.x) n1 r1 → ReadsLine n1 r1 (line_with Word.Eta master.eta) n2 r2 →
+    ReadsBlocksTo (value_line value) parts n2 r2 n3 r3 → ReadsBound cuts tree n3 r3 → ReadsBody Verdict.Optimal r (optimum master parts value cuts tree)
+optimal_body master parts value cuts tree n r n1 r1 n2 r2 n3 r3 h k b bound =
+    let front : Reads Verdict.Optimal start (optimum_lines master.den master.x master.eta parts value) n r n3 r3 = value_read master.den master.x master.eta parts value n r n1 r1 n2 r2 n3 r3 h k b in
+    let rest = bound.reads Verdict.Optimal _ (optimal_bound master.den master.x master.eta parts value) in
     let shaped : AreCuts cuts × AreNodes tree = bound_shaped Verdict.Optimal _ cuts tree n3 r3 bound rest.1 in
-    let points : PassFrom Verdict.Optimal start (front_of_optimum den x eta) × PassFrom Verdict.Optimal _ (block_lines 1 parts ++ value_line value ∷ []) =
-    pass_apart Verdict.Optimal start (front_of_optimum den x eta) (block_lines 1 parts ++ value_line value ∷ []) front.pass in
-    let blocks = pass_apart Verdict.Optimal (advance_all start (front_of_optimum den x eta)) (block_lines 1 parts) (value_line value ∷ []) points.1 in
+    let points : PassFrom Verdict.Optimal start (front_of_optimum master.den master.x master.eta) × PassFrom Verdict.Optimal _ (block_lines 1 parts ++ value_line value ∷ []) =
+    pass_apart Verdict.Optimal start (front_of_optimum master.den master.x master.eta) (block_lines 1 parts ++ value_line value ∷ []) front.pass in
+    let blocks = pass_apart Verdict.Optimal (advance_all start (front_of_optimum master.den master.x master.eta)) (block_lines 1 parts) (value_line value ∷ []) points.1 in
     record {
       verdict_is = refl;
       shaped = record {
-        parts = record {
-          den = points.0.0.narrow.0;
-          x = points.0.0.narrow.1;
-          eta = points.0.1.0.narrow;
-          blocks = blocks_narrow Verdict.Optimal _ 1 parts blocks.0;
-        };
+        parts = tt;
         value = blocks.1.0.narrow.0;
         ray = refl;
         cuts = shaped.0;
         tree = shaped.1;
       };
       writable = record { blocks = b.few; cuts = bound.writable_cuts; nodes = bound.writable_nodes };
-      joined = front.joined ∙ ap (λ t. laid_out (optimum_lines den x eta parts value) ++ t) rest.0
-          ∙ sym (laid_out_append (optimum_lines den x eta parts value) (bound_lines cuts tree))
-          ∙ ap (λ ls. laid_out (first_of_point den x ∷ line_with Word.Eta eta ∷ ls)) (append_assoc (block_lines 1 parts) (value_line value ∷ []) (bound_lines cuts tree));
+      joined = front.joined ∙ ap (λ t. laid_out (optimum_lines master.den master.x master.eta parts value) ++ t) rest.0
+          ∙ sym (laid_out_append (optimum_lines master.den master.x master.eta parts value) (bound_lines cuts tree))
+          ∙ ap (λ ls. laid_out (first_of_point master.den master.x ∷ line_with Word.Eta master.eta ∷ ls)) (append_assoc (block_lines 1 parts) (value_line value ∷ []) (bound_lines cuts tree));
     }
 
 -- a model without feasible points
@@ -273,39 +243,31 @@ pub ray_ends : (den : ℤ) (x : List ℤ) (parts : List BlockPart) (ray : List �
     (advance_all start (unbounded_lines den x parts ray ++ line_with Word.End [] ∷ [])).last ≡ Some Word.End
 ray_ends den x parts ray = one_more (λ s. s.last ≡ Some Word.End) start (unbounded_lines den x parts ray) (line_with Word.End []) refl
 
-pub unbounded_body : (den : ℤ) (x : List ℤ) (parts : List BlockPart) (ray : List ℤ) (n : ℕ) (r : List ℕ) (n1 : ℕ) (r1 : List ℕ) (n2 : ℕ) (r2 : List ℕ) (n3 : ℕ) (r3 : List ℕ) →
-    ReadsLine n r (first_of_point den x) n1 r1 → ReadsBlocksTo (line_with Word.Ray ray) parts n1 r1 n2 r2 → ReadsLine n2 r2 (line_with Word.End []) n3 r3 →
-    r3 ≡ [] → ReadsBody Verdict.Unbounded r (record {
+pub unbounded_body : (master : Master) (parts : List BlockPart) (ray : List ℤ) (n : ℕ) (r : List ℕ) (n1 : ℕ) (r1 : List ℕ) (n2 : ℕ) (r2 : List ℕ) (n3 : ℕ) (r3 : List ℕ) →
+    ReadsLine n r (first_of_point master.den master.x) n1 r1 → ReadsBlocksTo (line_with Word.Ray ray) parts n1 r1 n2 r2 → ReadsLine n2 r2 (line_with Word.End []) n3 r3 →
+    r3 ≡ [] → master.eta ≡ [] → ReadsBody Verdict.Unbounded r (record {
       verdict = Verdict.Unbounded;
-      parts = Some (record { master = record { den = den; x = x; eta = [] }; blocks = parts });
+      parts = Some (record { master = master; blocks = parts });
       value = pos 0;
       ray = ray;
       cuts = [];
       tree = [];
     })
-unbounded_body den x parts ray n r n1 r1 n2 r2 n3 r3 h b line none =
-    let all : Reads Verdict.Unbounded start (unbounded_lines den x parts ray ++ line_with Word.End [] ∷ []) n r n3 r3 =
-    end_of_ray den x parts ray n r n1 r1 n2 r2 n3 r3 h b line in
-    let front = pass_apart Verdict.Unbounded start (unbounded_lines den x parts ray) (line_with Word.End [] ∷ []) all.pass in
-    let blocks = pass_apart Verdict.Unbounded (advance start (first_of_point den x)) (block_lines 1 parts) (line_with Word.Ray ray ∷ []) front.0.1 in
+unbounded_body master parts ray n r n1 r1 n2 r2 n3 r3 h b line none no_etas =
+    let all : Reads Verdict.Unbounded start (unbounded_lines master.den master.x parts ray ++ line_with Word.End [] ∷ []) n r n3 r3 =
+    end_of_ray master.den master.x parts ray n r n1 r1 n2 r2 n3 r3 h b line in
+    let front = pass_apart Verdict.Unbounded start (unbounded_lines master.den master.x parts ray) (line_with Word.End [] ∷ []) all.pass in
+    let blocks = pass_apart Verdict.Unbounded (advance start (first_of_point master.den master.x)) (block_lines 1 parts) (line_with Word.Ray ray ∷ []) front.0.1 in
     record {
       verdict_is = refl;
       shaped = record {
-        parts = (
-          record {
-            den = front.0.0.narrow.0;
-            x = front.0.0.narrow.1;
-            eta = tt;
-            blocks = blocks_narrow Verdict.Unbounded _ 1 parts blocks.0;
-          },
-          refl,
-        );
+        parts = no_etas;
         value = refl;
         ray = blocks.1.0.narrow;
         cuts = refl;
         tree = refl;
       };
       writable = record { blocks = b.few; cuts = tt; nodes = tt };
-      joined = all.joined ∙ ap (λ t. laid_out (unbounded_lines den x parts ray ++ line_with Word.End [] ∷ []) ++ t) none ∙ append-nil _
-          ∙ ap (λ ls. laid_out (first_of_point den x ∷ ls)) (append_assoc (block_lines 1 parts) (line_with Word.Ray ray ∷ []) (line_with Word.End [] ∷ []));
+      joined = all.joined ∙ ap (λ t. laid_out (unbounded_lines master.den master.x parts ray ++ line_with Word.End [] ∷ []) ++ t) none ∙ append-nil _
+          ∙ ap (λ ls. laid_out (first_of_point master.den master.x ∷ ls)) (append_assoc (block_lines 1 parts) (line_with Word.Ray ray ∷ []) (line_with Word.End [] ∷ []));
     }

@@ -1,9 +1,14 @@
 -- The lines of a certificate tell the certificate.
 use Rattle.std.proofs.Common.{◌≡◌, ◌≢◌, ◌∷◌, ◌++◌, ◌∙◌, [], ℕ, ◌+◌, ℤ, pos, List, Option, Some, None, length, map, ap, sym, refl, subst, append-nil, append_assoc, arith}
+use Rattle.std.specs.List.{AllByRecursion}
+use Rattle.std.proofs.Props.{props}
+use mathlib.Core.HLevel.{is_prop→PathP}
+use Rattle.bz_algebra.specs.Numbers.{IsNarrow}
 use Rattle.bz_model.specs.declared.BlockPart.{BlockPart}
 use Rattle.bz_model.specs.declared.Master.{Master}
 use Rattle.bz_model.specs.declared.Parts.{Parts}
 use Rattle.bz_cut.specs.declared.Cut.{Cut}
+use Rattle.bz_tree.specs.declared.Leaf.{Leaf}
 use Rattle.bz_tree.specs.declared.TreeNode.{TreeNode}
 use Rattle.bz_cert.specs.declared.records.Certificate.{Certificate}
 use Rattle.bz_cert.specs.declared.records.Verdict.{Verdict}
@@ -13,6 +18,47 @@ use Rattle.bz_cert.specs.CertText.{CertLine, block_lines, bound_lines, cert_line
 use Rattle.bz_cert.specs.Shapes.{HasCutsOf, HasPartsOf, HasRayOf, HasTreeOf, HasValueOf, IsShaped}
 use Rattle.bz_cert.proofs.ListLemmas.{same_head, same_tail}
 use Rattle.bz_cert.proofs.SparseLists.{same_index, same_list}
+
+-- records are the same where their numbers are
+part_same : (b d : BlockPart) → b.times ≡ d.times → b.y ≡ d.y → b ≡ d
+part_same b d t y = λ i. record {
+  times = t i;
+  y = y i;
+  times_narrow = is_prop→PathP (λ j. IsNarrow (t j)) (λ j. hlevel props) b.times_narrow d.times_narrow i;
+  y_narrow = is_prop→PathP (λ j. AllByRecursion IsNarrow (y j)) (λ j. hlevel props) b.y_narrow d.y_narrow i;
+}
+
+master_same : (m n : Master) → m.den ≡ n.den → m.x ≡ n.x → m.eta ≡ n.eta → m ≡ n
+master_same m n d x e = λ i. record {
+  den = d i;
+  x = x i;
+  eta = e i;
+  den_narrow = is_prop→PathP (λ j. IsNarrow (d j)) (λ j. hlevel props) m.den_narrow n.den_narrow i;
+  x_narrow = is_prop→PathP (λ j. AllByRecursion IsNarrow (x j)) (λ j. hlevel props) m.x_narrow n.x_narrow i;
+  eta_narrow = is_prop→PathP (λ j. AllByRecursion IsNarrow (e j)) (λ j. hlevel props) m.eta_narrow n.eta_narrow i;
+}
+
+cut_same : (b d : Cut) → b.block ≡ d.block → b.mu ≡ d.mu → b.gcd ≡ d.gcd → b.alpha ≡ d.alpha → b.p0 ≡ d.p0 → b.beta ≡ d.beta → b ≡ d
+cut_same b d k m g a p r = λ i. record {
+  block = k i;
+  mu = m i;
+  gcd = g i;
+  alpha = a i;
+  p0 = p i;
+  beta = r i;
+  gcd_narrow = is_prop→PathP (λ j. IsNarrow (g j)) (λ j. hlevel props) b.gcd_narrow d.gcd_narrow i;
+  p0_narrow = is_prop→PathP (λ j. IsNarrow (p j)) (λ j. hlevel props) b.p0_narrow d.p0_narrow i;
+  beta_narrow = is_prop→PathP (λ j. IsNarrow (r j)) (λ j. hlevel props) b.beta_narrow d.beta_narrow i;
+}
+
+leaf_same : (x y : Leaf) → x.lambda ≡ y.lambda → x.delta ≡ y.delta → x.bound ≡ y.bound → x ≡ y
+leaf_same x y l d b = λ i. record {
+  lambda = l i;
+  delta = d i;
+  bound = b i;
+  delta_narrow = is_prop→PathP (λ j. IsNarrow (d j)) (λ j. hlevel props) x.delta_narrow y.delta_narrow i;
+  bound_narrow = is_prop→PathP (λ j. IsNarrow (b j)) (λ j. hlevel props) x.bound_narrow y.bound_narrow i;
+}
 
 -- lines of different words differ
 apart : (l m : CertLine) (ls ms : List CertLine) → (l.word ≡ m.word → ⊥) → l ∷ ls ≡ m ∷ ms → ⊥
@@ -32,7 +78,7 @@ same_blocks n (b ∷ bs) (d ∷ cs) l m ls ms h k e =
     let later : (bs ≡ cs) × (l ∷ ls ≡ m ∷ ms) = same_blocks (n + 1) bs cs l m ls ms h k (same_tail _ _ _ _ e) in
     let times : b.times ≡ d.times = same_head _ _ _ _ (same_tail _ _ _ _ numbers) in
     let y : b.y ≡ d.y = same_tail _ _ _ _ (same_tail _ _ _ _ numbers) in
-    let block : b ≡ d = ap (λ t. record { times = t; y = b.y }) times ∙ ap (λ t. record { times = d.times; y = t }) y in
+    let block : b ≡ d = part_same b d times y in
     (ap (λ t. t ∷ bs) block ∙ ap (λ t. d ∷ t) later.0, later.1)
 
 same_alone : (es fs : List (ℕ × ℤ)) → sparse_numbers es ≡ sparse_numbers fs → es ≡ fs
@@ -44,12 +90,7 @@ same_cut b d e =
     let e2 = same_tail _ _ _ _ e1 in
     let e3 = same_tail _ _ _ _ e2 in
     let lists : (b.alpha ≡ d.alpha) × (sparse_numbers b.mu ≡ sparse_numbers d.mu) = same_list b.alpha d.alpha _ _ (same_tail _ _ _ _ e3) in
-    ap (λ t. record { block = t; mu = b.mu; gcd = b.gcd; alpha = b.alpha; p0 = b.p0; beta = b.beta }) (same_index b.block d.block (same_head _ _ _ _ e))
-    ∙ ap (λ t. record { block = d.block; mu = t; gcd = b.gcd; alpha = b.alpha; p0 = b.p0; beta = b.beta }) (same_alone b.mu d.mu lists.1)
-    ∙ ap (λ t. record { block = d.block; mu = d.mu; gcd = t; alpha = b.alpha; p0 = b.p0; beta = b.beta }) (same_head _ _ _ _ e3)
-    ∙ ap (λ t. record { block = d.block; mu = d.mu; gcd = d.gcd; alpha = t; p0 = b.p0; beta = b.beta }) lists.0
-    ∙ ap (λ t. record { block = d.block; mu = d.mu; gcd = d.gcd; alpha = d.alpha; p0 = t; beta = b.beta }) (same_head _ _ _ _ e1)
-    ∙ ap (λ t. record { block = d.block; mu = d.mu; gcd = d.gcd; alpha = d.alpha; p0 = d.p0; beta = t }) (same_head _ _ _ _ e2)
+    cut_same b d (same_index b.block d.block (same_head _ _ _ _ e)) (same_alone b.mu d.mu lists.1) (same_head _ _ _ _ e3) lists.0 (same_head _ _ _ _ e1) (same_head _ _ _ _ e2)
 
 -- as many cuts in front of further lines
 same_cuts : (bs cs : List Cut) (ls ms : List CertLine) → length bs ≡ length cs → map cut_line bs ++ ls ≡ map cut_line cs ++ ms → (bs ≡ cs) × (ls ≡ ms)
@@ -71,10 +112,7 @@ same_node (TreeNode.Split p l r) (TreeNode.Leaf y) w e = absurd (cc)
 same_node (TreeNode.Leaf x) (TreeNode.Split q m s) w e = absurd (cc)
 same_node (TreeNode.Leaf x) (TreeNode.Leaf y) w e =
     let behind = same_tail _ _ _ _ e in
-    let leaf : x ≡ y =
-    ap (λ t. record { lambda = t; delta = x.delta; bound = x.bound }) (same_alone x.lambda y.lambda (same_tail _ _ _ _ behind))
-    ∙ ap (λ t. record { lambda = y.lambda; delta = t; bound = x.bound }) (same_head _ _ _ _ e)
-    ∙ ap (λ t. record { lambda = y.lambda; delta = y.delta; bound = t }) (same_head _ _ _ _ behind) in
+    let leaf : x ≡ y = leaf_same x y (same_alone x.lambda y.lambda (same_tail _ _ _ _ behind)) (same_head _ _ _ _ e) (same_head _ _ _ _ behind) in
     ap TreeNode.Leaf leaf
 
 -- a node's line is not the last one
@@ -103,10 +141,7 @@ same_bound bs cs xs ys e =
     (cuts.0, same_nodes xs ys cuts.1)
 
 same_master : (m n : Master) → m.den ∷ m.x ≡ n.den ∷ n.x → m.eta ≡ n.eta → m ≡ n
-same_master m n e k =
-    ap (λ t. record { den = t; x = m.x; eta = m.eta }) (same_head _ _ _ _ e)
-    ∙ ap (λ t. record { den = n.den; x = t; eta = m.eta }) (same_tail _ _ _ _ e)
-    ∙ ap (λ t. record { den = n.den; x = n.x; eta = t }) k
+same_master m n e k = master_same m n (same_head _ _ _ _ e) (same_tail _ _ _ _ e) k
 
 same_parts : (p q : Parts) → p.master ≡ q.master → p.blocks ≡ q.blocks → Some p ≡ Some q
 same_parts p q m b = ap (λ t. Some (record { master = t; blocks = p.blocks })) m ∙ ap (λ t. Some (record { master = q.master; blocks = t })) b
@@ -135,7 +170,7 @@ same_by Unbounded (Some p) None x y r s bs cs ns ms hp hq hx hy hr hs hb hc hn h
 same_by Unbounded (Some p) (Some q) x y r s bs cs ns ms hp hq hx hy hr hs hb hc hn hm e =
     let blocks : (p.blocks ≡ q.blocks) × (line_with Word.Ray r ∷ line_with Word.End [] ∷ [] ≡ line_with Word.Ray s ∷ line_with Word.End [] ∷ []) =
     same_blocks 1 p.blocks q.blocks _ _ _ _ (λ w. absurd (cc)) (λ w. absurd (cc)) (same_tail _ _ _ _ e) in
-    let master : p.master ≡ q.master = same_master p.master q.master (numbers_same _ _ _ _ e) (hp.1 ∙ sym hq.1) in
+    let master : p.master ≡ q.master = same_master p.master q.master (numbers_same _ _ _ _ e) (hp ∙ sym hq) in
     (same_parts p q master blocks.0, hx ∙ sym hy, numbers_same _ _ _ _ blocks.1, hb ∙ sym hc, hn ∙ sym hm)
 
 -- shaped certificates of the same verdict and the same lines are the same

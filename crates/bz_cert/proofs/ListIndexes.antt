@@ -2,10 +2,10 @@
 use Rattle.std.proofs.Common.{◌≡◌, ◌∷◌, ◌++◌, ◌∙◌, [], ℕ, suc, ◌-◌, ◌*◌, ℤ, pos, nat_abs, List, length, take, drop, get_or, arith, ◌<◌, ◌≤◌, ◌^◌, ap, sym, refl, subst, append-nil}
 use Rattle.std.specs.List.{AllByRecursion}
 use Rattle.std.proofs.Math.Seq.{take-length}
+use Rattle.bz_algebra.specs.Numbers.{IsNarrow}
 use Rattle.bz_algebra.specs.Sums.{AllBelow}
 use Rattle.bz_num.specs.Row.{IsSparse}
 use Rattle.bz_cut.specs.declared.Cut.{Cut}
-use Rattle.bz_tree.specs.declared.Leaf.{Leaf}
 use Rattle.bz_cert.specs.declared.words.Word.{Word}
 use Rattle.bz_cert.specs.CertFaults.{AreInOrder, AreOfCut, AreOfLeaf, IsIndex, Standing, alternate, behind_list, indexes_of, list_indexes, lists_indexes}
 use Rattle.bz_cert.specs.CertReading.{AreTwoLists, BeginsWithList}
@@ -100,29 +100,30 @@ first_index : (numbers : List ℤ) → 4 ≤ length numbers → AllByRecursion I
 first_index [] l h = absurd (omega arith)
 first_index (a ∷ ns) l h = h.0
 
--- the cut of numbers
-abbrev pub cut_from : List ℤ → List (ℕ × ℤ) → List (ℕ × ℤ) → Cut
-cut_from numbers alpha mu = record {
-  block = nat_abs (get_or numbers 0 (pos 0));
-  mu = mu;
-  gcd = get_or numbers 3 (pos 0);
-  alpha = alpha;
-  p0 = get_or numbers 1 (pos 0);
-  beta = get_or numbers 2 (pos 0);
-}
+-- the cut is that of the first four numbers, whatever its lists are
+pub record IsCutOf (numbers : List ℤ) (cut : Cut) : Type 0 where
+  pub block : cut.block ≡ nat_abs (get_or numbers 0 (pos 0))
+  pub p0 : cut.p0 ≡ get_or numbers 1 (pos 0)
+  pub beta : cut.beta ≡ get_or numbers 2 (pos 0)
+  pub gcd : cut.gcd ≡ get_or numbers 3 (pos 0)
 
-pub cut_is : (numbers : List ℤ) (alpha mu : List (ℕ × ℤ)) → 4 ≤ length numbers → AllByRecursion IsIndex (indexes_of Word.Cut numbers) →
-    AreTwoLists alpha mu (take (length numbers - 4) (drop 4 numbers)) → IsSparse alpha → IsSparse mu →
-    (numbers ≡ (cut_line (cut_from numbers alpha mu)).numbers) × IsWritableCut (cut_from numbers alpha mu)
-cut_is numbers alpha mu long indexes two sa sm =
+pub cut_is : (numbers : List ℤ) (cut : Cut) → IsCutOf numbers cut → 4 ≤ length numbers → AllByRecursion IsIndex (indexes_of Word.Cut numbers) →
+    AreTwoLists cut.alpha cut.mu (take (length numbers - 4) (drop 4 numbers)) → IsSparse cut.alpha → IsSparse cut.mu →
+    (numbers ≡ (cut_line cut).numbers) × IsWritableCut cut
+cut_is numbers cut is long indexes two sa sm =
     let front : AllByRecursion IsIndex (take 1 numbers) = (all_apart IsIndex (take 1 numbers) (lists_indexes (drop 4 numbers)) indexes).0 in
-    let index : IsIndex (get_or numbers 0 (pos 0)) = first_index numbers long front in (
+    let index : IsIndex (get_or numbers 0 (pos 0)) = first_index numbers long front in
+    let lists : List ℤ = sparse_numbers cut.alpha ++ sparse_numbers cut.mu in (
       first_four numbers long
           ∙ ap (λ k. k ∷ get_or numbers 1 (pos 0) ∷ get_or numbers 2 (pos 0) ∷ get_or numbers 3 (pos 0) ∷ drop 4 numbers) (index_is _ index)
           ∙ ap (λ ns. pos (nat_abs (get_or numbers 0 (pos 0))) ∷ get_or numbers 1 (pos 0) ∷ get_or numbers 2 (pos 0) ∷ get_or numbers 3 (pos 0) ∷ ns)
-          (sym (behind_four numbers long) ∙ two.laid_out),
+          (sym (behind_four numbers long) ∙ two.laid_out)
+          ∙ ap (λ n. pos n ∷ get_or numbers 1 (pos 0) ∷ get_or numbers 2 (pos 0) ∷ get_or numbers 3 (pos 0) ∷ lists) (sym is.block)
+          ∙ ap (λ z. pos cut.block ∷ z ∷ get_or numbers 2 (pos 0) ∷ get_or numbers 3 (pos 0) ∷ lists) (sym is.p0)
+          ∙ ap (λ z. pos cut.block ∷ cut.p0 ∷ z ∷ get_or numbers 3 (pos 0) ∷ lists) (sym is.beta)
+          ∙ ap (λ z. pos cut.block ∷ cut.p0 ∷ cut.beta ∷ z ∷ lists) (sym is.gcd),
       record {
-        block = size_below _ index;
+        block = subst (λ (n : ℕ). n < 2 ^ 32) (sym is.block) (size_below _ index);
         alpha = record { sparse = sa; indexes = two.first_indexes; count = two.first_count };
         mu = record { sparse = sm; indexes = two.second_indexes; count = two.second_count };
       },
@@ -135,10 +136,6 @@ lists_of_cut numbers long indexes cut =
     let all : AllByRecursion IsIndex (lists_indexes (drop 4 numbers)) = (all_apart IsIndex (take 1 numbers) (lists_indexes (drop 4 numbers)) indexes).1 in
     subst (λ (ns : List ℤ). AreTwoLists cut.alpha cut.mu ns) (sym (behind_four numbers long))
     (lists_in_range cut.alpha cut.mu (drop 4 numbers) (ap (drop 4) cut.numbers_are) all)
-
--- the leaf of numbers
-abbrev pub leaf_from : List ℤ → List (ℕ × ℤ) → Leaf
-leaf_from numbers lambda = record { lambda = lambda; delta = get_or numbers 0 (pos 0); bound = get_or numbers 1 (pos 0) }
 
 pub list_of_leaf : (numbers : List ℤ) → 2 ≤ length numbers → AllByRecursion IsIndex (indexes_of Word.Leaf numbers) → (leaf : AreOfLeaf numbers) →
     BeginsWithList leaf.lambda (take (length numbers - 2) (drop 2 numbers)) []

@@ -1,22 +1,20 @@
 -- Lines that pass, up to the last one, are the lines of a certificate.
-use Rattle.std.proofs.Common.{◌≡◌, ◌∷◌, ◌++◌, ◌∙◌, [], ℕ, suc, ◌+◌, ◌<◌, ◌≤◌, ◌^◌, ◌⊎◌, inl, inr, ℤ, List, Option, Some, length, drop, map, ap, sym, refl, subst, arith, append-nil, append_assoc, nat_lt}
+use Rattle.std.proofs.Common.{◌≡◌, ◌∷◌, ◌++◌, ◌∙◌, [], ℕ, suc, ◌+◌, ◌<◌, ◌≤◌, ◌^◌, ◌⊎◌, inl, inr, ℤ, pos, nat_abs, List, get_or, Option, Some, length, drop, map, ap, sym, refl, subst, arith, append-nil, append_assoc, nat_lt}
 use Rattle.std.specs.List.{AllByRecursion, flat_map}
 use Rattle.std.proofs.lemmas.Bool.{cases_lt, lt-ltb}
 use Rattle.bz_algebra.specs.Numbers.{IsNarrow}
 use Rattle.bz_cut.specs.declared.Cut.{Cut}
+use Rattle.bz_tree.proofs.NarrowSides.{narrow_at}
 use Rattle.bz_tree.specs.declared.Leaf.{Leaf}
 use Rattle.bz_tree.specs.declared.TreeNode.{TreeNode}
 use Rattle.bz_tree.specs.Trees.{Tree, fork, preorder, tip}
 use Rattle.bz_cert.specs.declared.records.Verdict.{Verdict}
 use Rattle.bz_cert.specs.declared.words.Word.{Word}
-use Rattle.bz_cut.specs.Narrow.{IsNarrowCut}
-use Rattle.bz_tree.specs.Narrow.{IsNarrowLeaf}
 use Rattle.bz_cert.specs.Shapes.{IsNarrowNode}
-use Rattle.bz_cert.specs.CertText.{CertLine, IsSparseList, IsWritableCut, IsWritableNode, cut_line, line_with, node_line}
+use Rattle.bz_cert.specs.CertText.{CertLine, IsSparseList, IsWritableCut, IsWritableNode, cut_line, line_with, node_line, sparse_numbers}
 use Rattle.bz_cert.specs.CertFaults.{BreaksTree, IsIn, IsIndex, IsWhole, Passes, Standing, words_behind, words_of_cuts}
 use Rattle.bz_cert.specs.CertReading.{BeginsWithList, PassFrom, advance, advance_all, tree_words}
-use Rattle.bz_cert.proofs.Bodies.{cuts_narrow, node_narrow}
-use Rattle.bz_cert.proofs.ListIndexes.{cut_from, cut_is, list_in_range, lists_of_cut}
+use Rattle.bz_cert.proofs.ListIndexes.{IsCutOf, cut_is, list_in_range, lists_of_cut}
 use Rattle.bz_cert.proofs.TextFaults.{behind_no_end}
 use Rattle.bz_cert.proofs.TextsPass.{BeforeCuts, BeforeNodes, behind_cut, behind_leaf, behind_split, first_node}
 
@@ -106,10 +104,10 @@ behind_a_split verdict before (suc trees) nodes position left right ls h p small
     }
 
 behind_a_leaf : (verdict : Verdict) (before : Standing) (trees nodes : ℕ) (leaf : Leaf) (ls : List CertLine) → BeforeNodes verdict before trees nodes →
-    PassBehind verdict before (node_line (TreeNode.Leaf leaf)) ls → IsSparseList leaf.lambda → IsNarrowLeaf leaf → NodesFrom verdict ls →
+    PassBehind verdict before (node_line (TreeNode.Leaf leaf)) ls → IsSparseList leaf.lambda → NodesFrom verdict ls →
     NodesOf (node_line (TreeNode.Leaf leaf) ∷ ls) nodes trees
-behind_a_leaf verdict before Prim.Native.Nat.zero nodes leaf ls h p list narrow later = absurd (p.first.tree (omega (arith, h.trees_are)))
-behind_a_leaf verdict before (suc trees) nodes leaf ls h p list narrow later =
+behind_a_leaf verdict before Prim.Native.Nat.zero nodes leaf ls h p list later = absurd (p.first.tree (omega (arith, h.trees_are)))
+behind_a_leaf verdict before (suc trees) nodes leaf ls h p list later =
     let few : suc nodes ≤ 65535 = one_more_node verdict before (suc trees) nodes h p.first.few in
     let rest : NodesOf ls (suc nodes) trees =
     later (advance before (node_line (TreeNode.Leaf leaf))) trees (suc nodes) (behind_leaf verdict before trees nodes leaf h) few p.later p.ends in
@@ -117,7 +115,7 @@ behind_a_leaf verdict before (suc trees) nodes leaf ls h p list narrow later =
       nodes = TreeNode.Leaf leaf ∷ rest.nodes;
       lines_are = ap (λ t. node_line (TreeNode.Leaf leaf) ∷ t) rest.lines_are;
       writable = (list, rest.writable);
-      narrow = (narrow, rest.narrow);
+      narrow = (tt, rest.narrow);
       few = omega (arith, rest.few);
       trees = tip leaf ∷ rest.trees;
       many = ap suc rest.many;
@@ -140,14 +138,15 @@ leaf_here : (verdict : Verdict) (before : Standing) (trees nodes : ℕ) (numbers
     PassBehind verdict before (line_with Word.Leaf numbers) ls → NodesFrom verdict ls → NodesOf (line_with Word.Leaf numbers ∷ ls) nodes trees
 leaf_here verdict before trees nodes numbers ls h p later =
     let order = p.first.in_order in
-    let leaf : Leaf = record { lambda = order.0.lambda; delta = order.0.delta; bound = order.0.bound } in
+    let numbers_are : numbers ≡ order.0.delta ∷ order.0.bound ∷ sparse_numbers order.0.lambda = order.0.numbers_are in
+    let narrow = subst (λ (ns : List ℤ). AllByRecursion IsNarrow ns) numbers_are p.first.narrow in
+    let leaf : Leaf = record { lambda = order.0.lambda; delta = order.0.delta; bound = order.0.bound; delta_narrow = narrow.0; bound_narrow = narrow.1.0 } in
     let range : BeginsWithList order.0.lambda (drop 2 numbers) [] =
     list_in_range order.0.lambda [] (drop 2 numbers) (ap (drop 2) order.0.numbers_are ∙ sym (append-nil _)) p.first.indexes in
     let list : IsSparseList order.0.lambda = record { sparse = order.1; indexes = range.indexes; count = range.count } in
     let same : line_with Word.Leaf numbers ≡ node_line (TreeNode.Leaf leaf) = ap (line_with Word.Leaf) order.0.numbers_are in
     subst (λ (l : CertLine). NodesOf (l ∷ ls) nodes trees) (sym same)
-    (behind_a_leaf verdict before trees nodes leaf ls h (behind_as verdict before _ _ ls same p) list
-    (node_narrow verdict before (TreeNode.Leaf leaf) (passes_as verdict before _ _ same p.first) list) later)
+    (behind_a_leaf verdict before trees nodes leaf ls h (behind_as verdict before _ _ ls same p) list later)
 
 -- behind the last line there is none
 pub nothing_left : (verdict : Verdict) (before : Standing) (ls : List CertLine) → PassFrom verdict before ls → before.last ≡ Some Word.End → ls ≡ []
@@ -204,7 +203,6 @@ pub record CutsOf (ls : List CertLine) (count : ℕ) : Type 0 where
   pub lines_are : ls ≡ map cut_line cuts ++ rest
   pub many : length cuts ≡ count
   pub writable : AllByRecursion IsWritableCut cuts
-  pub narrow : AllByRecursion IsNarrowCut cuts
   pub nodes : NodesOf rest 0 1
 
 abbrev CutsFrom : Verdict → ℕ → List CertLine → Type 0
@@ -221,7 +219,6 @@ behind_a_cut verdict before count cut ls h p writable later =
       lines_are = ap (λ t. cut_line cut ∷ t) rest.lines_are;
       many = ap suc rest.many;
       writable = (writable, rest.writable);
-      narrow = ((cuts_narrow verdict before (cut ∷ []) (p.first, tt) (writable, tt)).0, rest.narrow);
       nodes = rest.nodes;
     }
 
@@ -230,8 +227,19 @@ cut_here : (verdict : Verdict) (before : Standing) (count : ℕ) (numbers : List
 cut_here verdict before count numbers ls h p later =
     let order = p.first.in_order in
     let long : 4 ≤ length numbers = omega (arith, ap length order.0.numbers_are) in
-    let is = cut_is numbers order.0.alpha order.0.mu long p.first.indexes (lists_of_cut numbers long p.first.indexes order.0) order.1 order.2 in
-    let cut : Cut = cut_from numbers order.0.alpha order.0.mu in
+    let cut : Cut = record {
+      block = nat_abs (get_or numbers 0 (pos 0));
+      mu = order.0.mu;
+      gcd = get_or numbers 3 (pos 0);
+      alpha = order.0.alpha;
+      p0 = get_or numbers 1 (pos 0);
+      beta = get_or numbers 2 (pos 0);
+      gcd_narrow = narrow_at numbers 3 p.first.narrow;
+      p0_narrow = narrow_at numbers 1 p.first.narrow;
+      beta_narrow = narrow_at numbers 2 p.first.narrow;
+    } in
+    let first : IsCutOf numbers cut = record { block = refl; p0 = refl; beta = refl; gcd = refl } in
+    let is = cut_is numbers cut first long p.first.indexes (lists_of_cut numbers long p.first.indexes order.0) order.1 order.2 in
     let same : line_with Word.Cut numbers ≡ cut_line cut = ap (line_with Word.Cut) is.0 in
     subst (λ (l : CertLine). CutsOf (l ∷ ls) (suc count)) (sym same)
     (behind_a_cut verdict before count cut ls h (behind_as verdict before _ _ ls same p) is.1 later)
@@ -256,7 +264,6 @@ cuts_of verdict Prim.Native.Nat.zero ls ends before h pass last =
       lines_are = refl;
       many = refl;
       writable = tt;
-      narrow = tt;
       nodes = nodes_of verdict ls ends before 1 0 (first_node verdict before h) (omega arith) pass last;
     }
 cuts_of verdict (suc count) [] ends before h pass last = absurd (not_last verdict before _ _ (cuts_to_come verdict before count h) last)

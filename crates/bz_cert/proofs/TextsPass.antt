@@ -17,8 +17,6 @@ use Rattle.bz_cert.specs.declared.records.Verdict.{Verdict}
 use Rattle.bz_cert.specs.declared.records.Verdict.TheVariants.{Optimal, Infeasible, Unbounded}
 use Rattle.bz_cert.specs.declared.words.Word.{Word}
 use Rattle.bz_cert.specs.Shapes.{AreCuts, AreNodes, HasCutsOf, HasPartsOf, HasRayOf, HasTreeOf, HasValueOf, IsNarrowNode, IsShaped}
-use Rattle.bz_cut.specs.Narrow.{IsNarrowCut}
-use Rattle.bz_tree.specs.Narrow.{IsNarrowLeaf}
 use Rattle.bz_cert.specs.CertText.{CertLine, HasFewBlocks, IsSparseList, IsWritable, IsWritableCut, IsWritableNode, block_lines, bound_lines, cert_lines, cut_line, line_with, lines_by, node_line, sparse_numbers}
 use Rattle.bz_cert.specs.CertFaults.{BreaksTree, IsIn, IsIndex, IsWhole, Passes, Standing, alternate, behind_list, list_indexes, lists_indexes, words_behind, words_of_block, words_of_cuts}
 use Rattle.bz_cert.specs.CertPhases.{start}
@@ -71,18 +69,18 @@ narrow_list es h = (narrow_index (length es) h.count, narrow_pairs 0 es h.sparse
 
 -- a cut's line, where cuts are still to come
 cut_passes : (verdict : Verdict) (before : Standing) (cut : Cut) → IsIn (words_behind verdict (nat_lt before.cuts before.told) before.last) Word.Cut →
-    IsNarrowCut cut → IsWritableCut cut → Passes verdict before (cut_line cut)
-cut_passes verdict before cut possible narrow writable = record {
+    IsWritableCut cut → Passes verdict before (cut_line cut)
+cut_passes verdict before cut possible writable = record {
   possible = possible;
   tree = λ t. t;
   narrow = (
     narrow_index cut.block writable.block,
     (
-      narrow.p0,
+      cut.p0_narrow,
       (
-        narrow.beta,
+        cut.beta_narrow,
         (
-          narrow.gcd,
+          cut.gcd_narrow,
           all_append IsNarrow (sparse_numbers cut.alpha) (sparse_numbers cut.mu) (narrow_list cut.alpha writable.alpha) (narrow_list cut.mu writable.mu),
         ),
       ),
@@ -116,11 +114,11 @@ split_passes verdict before trees nodes position left right h few small l r = re
 }
 
 leaf_passes : (verdict : Verdict) (before : Standing) (trees nodes : ℕ) (leaf : Leaf) → BeforeNodes verdict before (suc trees) nodes → nodes ≤ 65534 →
-    IsNarrowLeaf leaf → IsSparseList leaf.lambda → Passes verdict before (node_line (TreeNode.Leaf leaf))
-leaf_passes verdict before trees nodes leaf h few narrow list = record {
+    IsSparseList leaf.lambda → Passes verdict before (node_line (TreeNode.Leaf leaf))
+leaf_passes verdict before trees nodes leaf h few list = record {
   possible = is_possible _ tree_words Word.Leaf h.words_are (inr (inl refl));
   tree = λ whole. absurd (omega (arith, h.trees_are, whole));
-  narrow = (narrow.delta, (narrow.bound, narrow_list leaf.lambda list));
+  narrow = (leaf.delta_narrow, (leaf.bound_narrow, narrow_list leaf.lambda list));
   indexes = subst (λ (ns : List ℤ). AllByRecursion IsIndex (list_indexes ns)) (append-nil (sparse_numbers leaf.lambda)) (list_in_range leaf.lambda [] list);
   few = λ many. absurd (omega (arith, many, h.nodes_are, few));
   enough = record { delta = leaf.delta; bound = leaf.bound; lambda = leaf.lambda; numbers_are = refl };
@@ -143,7 +141,7 @@ tree_then : (verdict : Verdict) (before : Standing) (trees nodes : ℕ) (tree : 
     ((b : Standing) → BeforeNodes verdict b trees (nodes + length (preorder tree)) → PassFrom verdict b more) →
     PassFrom verdict before (map node_line (preorder tree) ++ more)
 tree_then verdict before trees nodes (tip leaf) more h few narrow writable later = (
-  leaf_passes verdict before trees nodes leaf h (omega (arith, few)) narrow.0 writable.0,
+  leaf_passes verdict before trees nodes leaf h (omega (arith, few)) writable.0,
   later _ (subst (λ (n : ℕ). BeforeNodes verdict (advance before (node_line (TreeNode.Leaf leaf))) trees n) one_node (behind_leaf verdict before trees nodes leaf h)),
 )
   where
@@ -214,12 +212,12 @@ first_node verdict before h =
 
 -- the lines of cuts, and what passes behind them
 cuts_then : (verdict : Verdict) (before : Standing) (cuts : List Cut) (more : List CertLine) → BeforeCuts verdict before (length cuts) →
-    AllByRecursion IsNarrowCut cuts → AllByRecursion IsWritableCut cuts → ((b : Standing) → BeforeCuts verdict b 0 → PassFrom verdict b more) →
+    AllByRecursion IsWritableCut cuts → ((b : Standing) → BeforeCuts verdict b 0 → PassFrom verdict b more) →
     PassFrom verdict before (map cut_line cuts ++ more)
-cuts_then verdict before [] more h narrow writable later = later before h
-cuts_then verdict before (cut ∷ cuts) more h narrow writable later = (
-  cut_passes verdict before cut (cut_allowed verdict before (length cuts) h) narrow.0 writable.0,
-  cuts_then verdict (advance before (cut_line cut)) cuts more (behind_cut verdict before cut (length cuts) h) narrow.1 writable.1 later,
+cuts_then verdict before [] more h writable later = later before h
+cuts_then verdict before (cut ∷ cuts) more h writable later = (
+  cut_passes verdict before cut (cut_allowed verdict before (length cuts) h) writable.0,
+  cuts_then verdict (advance before (cut_line cut)) cuts more (behind_cut verdict before cut (length cuts) h) writable.1 later,
 )
 
 -- what holds before the number of the cuts
@@ -260,10 +258,10 @@ bound_pass : (verdict : Verdict) (before : Standing) (cuts : List Cut) (nodes : 
 bound_pass verdict before cuts nodes h are are_nodes writable writable_nodes stays =
     let is : nodes ≡ preorder are_nodes.tree = are_nodes.is_tree in
     let few : length (preorder are_nodes.tree) ≤ 65535 = subst (λ (ns : List TreeNode). length ns ≤ 65535) is are_nodes.few in (
-      count_passes verdict before (length cuts) h are.few,
+      count_passes verdict before (length cuts) h are,
       subst (λ (ls : List CertLine). PassFrom verdict (advance before (line_with Word.Cuts (pos (length cuts) ∷ []))) ls)
           (sym (append_assoc (map cut_line cuts) (map node_line nodes) (line_with Word.End [] ∷ [])))
-          (cuts_then verdict _ cuts (map node_line nodes ++ line_with Word.End [] ∷ []) (behind_count verdict before (length cuts) h) are.narrow writable
+          (cuts_then verdict _ cuts (map node_line nodes ++ line_with Word.End [] ∷ []) (behind_count verdict before (length cuts) h) writable
           (λ b k. subst (λ (ns : List TreeNode). PassFrom verdict b (map node_line ns ++ line_with Word.End [] ∷ [])) (sym is)
           (tree_then verdict b 0 0 are_nodes.tree (line_with Word.End [] ∷ []) (first_node verdict b k) (omega (arith, few))
           (subst (λ (ns : List TreeNode). AllByRecursion IsNarrowNode ns) is are_nodes.narrow)
@@ -281,11 +279,11 @@ pub record BeforeBlocks (verdict : Verdict) (before : Standing) (last : Word) (b
   pub leaves : before.leaves ≡ 0
 
 block_passes : (verdict : Verdict) (before : Standing) (last : Word) (first : ℕ) (block : BlockPart) → BeforeBlocks verdict before last first → suc first < 2 ^ 32 →
-    IsNarrow block.times × AllByRecursion IsNarrow block.y → Passes verdict before (line_with Word.Block (pos (suc first) ∷ block.times ∷ block.y))
-block_passes verdict before last first block h small narrow = record {
+    Passes verdict before (line_with Word.Block (pos (suc first) ∷ block.times ∷ block.y))
+block_passes verdict before last first block h small = record {
   possible = is_possible _ (Word.Block ∷ last ∷ []) Word.Block (h.words_are _) (inl refl);
   tree = λ t. t;
-  narrow = (narrow_index (suc first) small, narrow);
+  narrow = (narrow_index (suc first) small, (block.times_narrow, block.y_narrow));
   indexes = (index_of (suc first) small, tt);
   few = λ t. t;
   enough = omega arith;
@@ -307,15 +305,14 @@ behind_block verdict before last first block words h = record {
 -- the lines of blocks, and what passes behind them
 blocks_then : (verdict : Verdict) (before : Standing) (last : Word) (first : ℕ) (blocks : List BlockPart) (more : List CertLine) →
     words_of_block verdict ≡ Word.Block ∷ last ∷ [] → BeforeBlocks verdict before last first → first + length blocks < 2 ^ 32 →
-    AllByRecursion (λ block. IsNarrow block.times × AllByRecursion IsNarrow block.y) blocks →
     ((b : Standing) (count : ℕ) → BeforeBlocks verdict b last count → PassFrom verdict b more) → PassFrom verdict before (block_lines (suc first) blocks ++ more)
-blocks_then verdict before last first [] more words h few narrow later = later before first h
-blocks_then verdict before last first (block ∷ blocks) more words h few narrow later =
+blocks_then verdict before last first [] more words h few later = later before first h
+blocks_then verdict before last first (block ∷ blocks) more words h few later =
     let next : suc (suc first) ≡ suc first + 1 = omega arith in (
-      block_passes verdict before last first block h (omega (arith, few)) narrow.0,
+      block_passes verdict before last first block h (omega (arith, few)),
       subst (λ (n : ℕ). PassFrom verdict (advance before (line_with Word.Block (pos (suc first) ∷ block.times ∷ block.y))) (block_lines n blocks ++ more)) next
           (blocks_then verdict (advance before (line_with Word.Block (pos (suc first) ∷ block.times ∷ block.y))) last (suc first) blocks more words
-          (behind_block verdict before last first block words h) (omega (arith, few)) narrow.1 later),
+          (behind_block verdict before last first block words h) (omega (arith, few)) later),
     )
 
 lines_pass : (v : Verdict) (p : Option Parts) (x : ℤ) (r : List ℤ) (cuts : List Cut) (nodes : List TreeNode) → HasPartsOf v p → HasValueOf v x → HasRayOf v r →
@@ -323,11 +320,11 @@ lines_pass : (v : Verdict) (p : Option Parts) (x : ℤ) (r : List ℤ) (cuts : L
     PassFrom v start (lines_by v p x r cuts nodes)
 lines_pass Optimal None x r cuts nodes hp hx hr hc hn few wc wn = absurd hp
 lines_pass Optimal (Some p) x r cuts nodes hp hx hr hc hn few wc wn = (
-  record { possible = inl refl; tree = λ t. t; narrow = (hp.den, hp.x); indexes = tt; few = λ t. t; enough = omega arith; in_order = tt },
+  record { possible = inl refl; tree = λ t. t; narrow = (p.master.den_narrow, p.master.x_narrow); indexes = tt; few = λ t. t; enough = omega arith; in_order = tt },
   (
-    record { possible = inl refl; tree = λ t. t; narrow = hp.eta; indexes = tt; few = λ t. t; enough = tt; in_order = tt },
+    record { possible = inl refl; tree = λ t. t; narrow = p.master.eta_narrow; indexes = tt; few = λ t. t; enough = tt; in_order = tt },
     blocks_then Optimal _ Word.Value 0 p.blocks (line_with Word.Value (x ∷ []) ∷ bound_lines cuts nodes) refl
-        (record { words_are = λ to_come. refl; blocks_are = refl; told = refl; cuts = refl; splits = refl; leaves = refl }) (omega (arith, few)) hp.blocks
+        (record { words_are = λ to_come. refl; blocks_are = refl; told = refl; cuts = refl; splits = refl; leaves = refl }) (omega (arith, few))
         (λ b count h. (
           record {
             possible = is_possible _ (Word.Block ∷ Word.Value ∷ []) Word.Value (h.words_are _) (inr (inl refl));
@@ -355,9 +352,9 @@ lines_pass Infeasible None x r cuts nodes hp hx hr hc hn few wc wn =
     (record { words_are = λ to_come. refl; told = refl; cuts = refl; splits = refl; leaves = refl }) hc hn wc wn (λ d whole broken. broken whole)
 lines_pass Unbounded None x r cuts nodes hp hx hr hc hn few wc wn = absurd hp
 lines_pass Unbounded (Some p) x r cuts nodes hp hx hr hc hn few wc wn = (
-  record { possible = inl refl; tree = λ t. t; narrow = (hp.0.den, hp.0.x); indexes = tt; few = λ t. t; enough = omega arith; in_order = tt },
+  record { possible = inl refl; tree = λ t. t; narrow = (p.master.den_narrow, p.master.x_narrow); indexes = tt; few = λ t. t; enough = omega arith; in_order = tt },
   blocks_then Unbounded _ Word.Ray 0 p.blocks (line_with Word.Ray r ∷ line_with Word.End [] ∷ []) refl
-      (record { words_are = λ to_come. refl; blocks_are = refl; told = refl; cuts = refl; splits = refl; leaves = refl }) (omega (arith, few)) hp.0.blocks
+      (record { words_are = λ to_come. refl; blocks_are = refl; told = refl; cuts = refl; splits = refl; leaves = refl }) (omega (arith, few))
       (λ b count h. (
         record {
           possible = is_possible _ (Word.Block ∷ Word.Ray ∷ []) Word.Ray (h.words_are _) (inr (inl refl));

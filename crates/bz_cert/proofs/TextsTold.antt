@@ -52,7 +52,7 @@ behind_the_count count ls few h =
           ∙ ap (λ ms. line_with Word.Cuts (pos (length h.cuts) ∷ []) ∷ ms)
           (h.lines_are ∙ ap (λ ms. map cut_line h.cuts ++ ms) h.nodes.lines_are
           ∙ sym (append_assoc (map cut_line h.cuts) (map node_line h.nodes.nodes) (line_with Word.End [] ∷ [])));
-      are_cuts = record { few = omega (arith, few, h.many); narrow = h.narrow };
+      are_cuts = omega (arith, few, h.many);
       are_nodes = record { few = omega (arith, h.nodes.few); narrow = h.nodes.narrow; tree = tree.0; is_tree = tree.1 };
       writable_cuts = h.writable;
       writable_nodes = h.nodes.writable;
@@ -93,7 +93,6 @@ record BlocksOf (verdict : Verdict) (last : Word) (ls : List CertLine) (first : 
   pub rest : List CertLine
   pub lines_are : ls ≡ block_lines (suc first) blocks ++ line_with last numbers ∷ rest
   pub few : first + length blocks < 2 ^ 32
-  pub narrow : AllByRecursion (λ block. IsNarrow block.times × AllByRecursion IsNarrow block.y) blocks
   pub before : Standing
   pub count : ℕ
   pub told : BeforeBlocks verdict before last count
@@ -118,7 +117,6 @@ behind_a_block verdict last before first block ls words h small p later =
       lines_are = ap (λ ms. line_with Word.Block (pos (suc first) ∷ block.times ∷ block.y) ∷ ms)
           (rest.lines_are ∙ ap (λ n. block_lines n rest.blocks ++ line_with last rest.numbers ∷ rest.rest) next);
       few = omega (arith, rest.few);
-      narrow = ((p.first.narrow.1.0, p.first.narrow.1.1), rest.narrow);
       before = rest.before;
       count = rest.count;
       told = rest.told;
@@ -137,7 +135,7 @@ block_here verdict last before first (a ∷ t ∷ y) ls words h p later =
     let same : line_with Word.Block (a ∷ t ∷ y) ≡ line_with Word.Block (pos (suc first) ∷ t ∷ y) =
     ap (λ z. line_with Word.Block (z ∷ t ∷ y)) (index.1 ∙ ap pos number) in
     subst (λ (l : CertLine). BlocksOf verdict last (l ∷ ls) first) (sym same)
-    (behind_a_block verdict last before first (record { times = t; y = y }) ls words h (subst (λ (n : ℕ). n < 2 ^ 32) number index.2)
+    (behind_a_block verdict last before first (record { times = t; y = y; times_narrow = p.first.narrow.1.0; y_narrow = p.first.narrow.1.1 }) ls words h (subst (λ (n : ℕ). n < 2 ^ 32) number index.2)
     (behind_as verdict before _ _ ls same p) later)
 
 block_or_last : (verdict : Verdict) (last : Word) (before : Standing) (first : ℕ) (line : CertLine) (ls : List CertLine) → words_of_block verdict ≡ Word.Block ∷ last ∷ [] →
@@ -153,7 +151,6 @@ block_or_last verdict last before first line ls words h few p (inr (inl e)) late
       rest = ls;
       lines_are = ap (λ l. l ∷ ls) (known line last e);
       few = omega (arith, few);
-      narrow = tt;
       before = before;
       count = first;
       told = h;
@@ -210,7 +207,10 @@ optimum_of : (den : ℤ) (x eta : List ℤ) (ls : List CertLine) → Passes Opti
 optimum_of den x eta ls point narrow b value alone value_narrow bound = record {
   certificate = record {
     verdict = Optimal;
-    parts = Some (record { master = record { den = den; x = x; eta = eta }; blocks = b.blocks });
+    parts = Some (record {
+      master = record { den = den; x = x; eta = eta; den_narrow = point.narrow.0; x_narrow = point.narrow.1; eta_narrow = narrow };
+      blocks = b.blocks;
+    });
     value = value;
     ray = [];
     cuts = bound.cuts;
@@ -221,7 +221,7 @@ optimum_of den x eta ls point narrow b value alone value_narrow bound = record {
       (b.lines_are ∙ ap (λ ns. block_lines 1 b.blocks ++ line_with Word.Value ns ∷ b.rest) alone
       ∙ ap (λ ms. block_lines 1 b.blocks ++ line_with Word.Value (value ∷ []) ∷ ms) bound.lines_are);
   shaped = record {
-    parts = record { den = point.narrow.0; x = point.narrow.1; eta = narrow; blocks = b.narrow };
+    parts = tt;
     value = value_narrow;
     ray = refl;
     cuts = bound.are_cuts;
@@ -291,7 +291,10 @@ unbounded_behind den x ls p =
     record {
       certificate = record {
         verdict = Unbounded;
-        parts = Some (record { master = record { den = den; x = x; eta = [] }; blocks = b.blocks });
+        parts = Some (record {
+          master = record { den = den; x = x; eta = []; den_narrow = p.first.narrow.0; x_narrow = p.first.narrow.1; eta_narrow = tt };
+          blocks = b.blocks;
+        });
         value = pos 0;
         ray = b.numbers;
         cuts = [];
@@ -301,7 +304,7 @@ unbounded_behind den x ls p =
       lines_are = ap (λ ms. first_of_point den x ∷ ms)
           (b.lines_are ∙ ap (λ ms. block_lines 1 b.blocks ++ line_with Word.Ray b.numbers ∷ ms) (ray_end b.numbers b.rest b.before b.behind.later b.behind.ends));
       shaped = record {
-        parts = (record { den = p.first.narrow.0; x = p.first.narrow.1; eta = tt; blocks = b.narrow }, refl);
+        parts = refl;
         value = refl;
         ray = b.behind.first.narrow;
         cuts = refl;

@@ -4,34 +4,25 @@ use Rattle.std.specs.List.{AllByRecursion}
 use Rattle.bz_algebra.specs.Numbers.{IsNarrow}
 use Rattle.bz_model.specs.declared.Parts.{Parts}
 use Rattle.bz_cut.specs.declared.Cut.{Cut}
-use Rattle.bz_cut.specs.Narrow.{IsNarrowCut}
 use Rattle.bz_tree.specs.declared.TreeNode.{TreeNode}
-use Rattle.bz_tree.specs.Narrow.{IsNarrowLeaf}
 use Rattle.bz_tree.specs.Trees.{Tree, IsTreeOf}
 use Rattle.bz_cert.specs.declared.records.Certificate.{Certificate}
 use Rattle.bz_cert.specs.declared.records.Verdict.{Verdict}
 use Rattle.bz_cert.specs.declared.records.Verdict.TheVariants.{Optimal, Infeasible, Unbounded}
 
--- no number of the parts is wide
-pub record AreNarrowParts (parts : Parts) : Type 0 where
-  pub den : IsNarrow parts.master.den
-  pub x : AllByRecursion IsNarrow parts.master.x
-  pub eta : AllByRecursion IsNarrow parts.master.eta
-  pub blocks : AllByRecursion (λ block. IsNarrow block.times × AllByRecursion IsNarrow block.y) parts.blocks
-
--- no number of the node is wide
+-- neither number of a split is wide
 abbrev pub IsNarrowNode : TreeNode → Type 0
 IsNarrowNode (TreeNode.Split position left right) = IsNarrow left × IsNarrow right
-IsNarrowNode (TreeNode.Leaf leaf) = IsNarrowLeaf leaf
+IsNarrowNode (TreeNode.Leaf leaf) = Unit {0}
 
 -- the parts that a certificate of the verdict has: none where no point is feasible, and no etas where it is unbounded
 abbrev pub HasPartsOf : Verdict → Option Parts → Type 0
 HasPartsOf Optimal None = ⊥
-HasPartsOf Optimal (Some parts) = AreNarrowParts parts
+HasPartsOf Optimal (Some parts) = Unit {0}
 HasPartsOf Infeasible None = Unit {0}
 HasPartsOf Infeasible (Some parts) = ⊥
 HasPartsOf Unbounded None = ⊥
-HasPartsOf Unbounded (Some parts) = AreNarrowParts parts × (parts.master.eta ≡ [])
+HasPartsOf Unbounded (Some parts) = parts.master.eta ≡ []
 
 -- the value, which an optimum alone has
 abbrev pub HasValueOf : Verdict → ℤ → Type 0
@@ -45,10 +36,9 @@ HasRayOf Optimal ray = ray ≡ []
 HasRayOf Infeasible ray = ray ≡ []
 HasRayOf Unbounded ray = AllByRecursion IsNarrow ray
 
--- at most 65,535 cuts without wide numbers
-pub record AreCuts (cuts : List Cut) : Type 0 where
-  pub few : length cuts ≤ 65535
-  pub narrow : AllByRecursion IsNarrowCut cuts
+-- at most 65,535 cuts
+abbrev pub AreCuts : List Cut → Type 0
+AreCuts cuts = length cuts ≤ 65535
 
 -- the nodes of one whole tree, at most 65,535, without wide numbers
 pub record AreNodes (nodes : List TreeNode) : Type 0 where

@@ -1,5 +1,7 @@
 //! What stands behind the two first lines of a certificate's text, by the verdict.
 ghost use Rattle.std.specs.Prelude.{[], ◌≡◌, ◌∷◌, Some};
+ghost use Rattle.std.specs.List.{AllByRecursion};
+ghost use Rattle.bz_algebra.specs.Numbers.{IsNarrow};
 ghost use Rattle.bz_cert.specs.declared.records.Verdict.{Verdict};
 ghost use Rattle.bz_cert.specs.declared.words.Word.{Word};
 ghost use Rattle.bz_cert.specs.CertFaults.{FailsAtOnce, Standing};
@@ -28,6 +30,22 @@ fn finish(at: Place<'_>) -> Result<(), CertStop>
         Ok(())
     } else {
         Err(fault(at.lines + 1, CertKind::End))
+    }
+}
+
+/// The master's part of a point.
+fn master_part(den: i128, x: Vec<i128>, eta: Vec<i128>) -> Master
+    requires den { IsNarrow den }
+    requires x { AllByRecursion IsNarrow x.items }
+    requires eta { AllByRecursion IsNarrow eta.items }
+    ensures den { result.den ≡ den }
+    ensures x { result.x ≡ x.items }
+    ensures eta { result.eta ≡ eta.items }
+{
+    Master {
+        den,
+        x: Items::from_vec(x),
+        eta: Items::from_vec(eta),
     }
 }
 
@@ -104,15 +122,10 @@ fn read_optimal(alloc: Global, at: Place<'_>) -> Result<Certificate, CertStop>
         behind,
     } = read_valued(alloc, behind)?;
     let (cuts, tree) = read_bound(alloc, behind)?;
-    let master = Master {
-        den,
-        x: Items::from_vec(x),
-        eta: Items::from_vec(eta),
-    };
     Ok(Certificate {
         verdict: Verdict::Optimal,
         parts: Some(Parts {
-            master,
+            master: master_part(den, x, eta),
             blocks: Items::from_vec(blocks),
         }),
         value,
@@ -149,15 +162,10 @@ fn read_unbounded(alloc: Global, at: Place<'_>) -> Result<Certificate, CertStop>
     } = read_directed(alloc, behind)?;
     let end = read_end(alloc, behind, &[Word::End])?;
     finish(end)?;
-    let master = Master {
-        den,
-        x: Items::from_vec(x),
-        eta: Items::from_vec(Vec::new(alloc)),
-    };
     Ok(Certificate {
         verdict: Verdict::Unbounded,
         parts: Some(Parts {
-            master,
+            master: master_part(den, x, Vec::new(alloc)),
             blocks: Items::from_vec(blocks),
         }),
         value: 0,

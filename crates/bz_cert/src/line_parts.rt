@@ -1,6 +1,7 @@
 //! What the numbers of a line are: the parts of a certificate.
 ghost use Rattle.std.specs.Prelude.{ℤ, List, [], ◌≡◌, ◌∷◌, ◌+◌, ◌≤◌, ◌⊎◌, suc, pos};
 ghost use Rattle.std.specs.List.{AllByRecursion};
+ghost use Rattle.bz_algebra.specs.Numbers.{IsNarrow};
 ghost use Rattle.bz_cert.specs.CertFaults.{IsIndex, Standing, indexes_of};
 ghost use Rattle.bz_cert.specs.CertReading.{Answers, AreNumbersOf, NumbersFail, Only};
 ghost use Rattle.bz_cert.specs.CertText.{IsWritableCut, IsWritableNode, cut_line, line_with, node_line};
@@ -57,7 +58,8 @@ pub(crate) fn block_of(
     block: u32,
     numbers: &[i128],
 ) -> Result<BlockPart, CertStop>
-    requires { AllByRecursion IsIndex (indexes_of Word.Block numbers.now) }
+    requires indexes { AllByRecursion IsIndex (indexes_of Word.Block numbers.now) }
+    requires narrow { AllByRecursion IsNarrow numbers.now }
     ensures { Answers (λ part. numbers.now ≡ pos block ∷ part.times ∷ part.y) (λ number kind. (before : Standing) → suc before.blocks ≡ block → NumbersFail line before Word.Block numbers.now number kind) result }
 {
     let [number, times, y @ ..] = numbers else {
@@ -102,7 +104,8 @@ pub(crate) fn count_of(line: u32, numbers: &[i128]) -> Result<u32, CertStop>
 
 /// The cut of a line.
 pub(crate) fn cut_of(alloc: Global, line: u32, numbers: &[i128]) -> Result<Cut, CertStop>
-    requires { AllByRecursion IsIndex (indexes_of Word.Cut numbers.now) }
+    requires indexes { AllByRecursion IsIndex (indexes_of Word.Cut numbers.now) }
+    requires narrow { AllByRecursion IsNarrow numbers.now }
     ensures { Answers (λ cut. (numbers.now ≡ (cut_line cut).numbers) × IsWritableCut cut) (λ number kind. (before : Standing) → NumbersFail line before Word.Cut numbers.now number kind) result }
 {
     let [block, p0, beta, gcd, lists @ ..] = numbers else {
@@ -142,7 +145,8 @@ fn split_of(line: u32, numbers: &[i128]) -> Result<TreeNode, CertStop>
 
 /// The leaf of a line.
 fn leaf_of(alloc: Global, line: u32, numbers: &[i128]) -> Result<TreeNode, CertStop>
-    requires { AllByRecursion IsIndex (indexes_of Word.Leaf numbers.now) }
+    requires indexes { AllByRecursion IsIndex (indexes_of Word.Leaf numbers.now) }
+    requires narrow { AllByRecursion IsNarrow numbers.now }
     ensures { Answers (λ node. (node_line node ≡ line_with Word.Leaf numbers.now) × IsWritableNode node) (λ number kind. (before : Standing) → before.splits + before.leaves ≤ 65534 → NumbersFail line before Word.Leaf numbers.now number kind) result }
 {
     let [delta, bound, list @ ..] = numbers else {
@@ -175,6 +179,7 @@ pub(crate) fn node_of(
 ) -> Result<TreeNode, CertStop>
     requires word { (word ≡ Word.Split) ⊎ (word ≡ Word.Leaf) }
     requires indexes { AllByRecursion IsIndex (indexes_of word numbers.now) }
+    requires narrow { AllByRecursion IsNarrow numbers.now }
     ensures { Answers (λ node. (node_line node ≡ line_with word numbers.now) × IsWritableNode node × (nodes ≤ 65534)) (λ number kind. (before : Standing) → before.splits + before.leaves ≡ nodes → NumbersFail line before word numbers.now number kind) result }
 {
     if nodes >= MAX {

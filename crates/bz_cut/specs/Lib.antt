@@ -2,7 +2,6 @@ pub mod CutTests
 pub mod Cuts
 pub mod Fits
 pub mod Laws
-pub mod Narrow
 pub mod Rows
 pub mod SumTests
 pub mod Sums

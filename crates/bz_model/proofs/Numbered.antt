@@ -4,6 +4,7 @@ use Rattle.std.specs.List.{AllByRecursion, enumerate_from}
 use Rattle.std.proofs.Common.{refl, ap, sym, subst, arith, inl, inr}
 use Rattle.std.proofs.lemmas.Bool.{cases_eq}
 use Rattle.std.proofs.lemmas.Int.{ints}
+use Rattle.bz_algebra.specs.Numbers.{IsNarrow}
 use Rattle.bz_algebra.specs.Sums.{upto}
 use Rattle.bz_model.specs.Points.{coordinate}
 use Rattle.bz_model.specs.PartPoints.{total}
@@ -50,6 +51,12 @@ pub length-list_of : (n : ℕ) (f : ℕ → ℤ) → length (list_of n f) ≡ n
 unfolding list_of
 length-list_of zero f = refl
 length-list_of (suc n) f = ap suc (length-list_of n (λ i. f (suc i)))
+
+-- no number of the list is wide
+pub narrow-list_of : (n : ℕ) (f : ℕ → ℤ) → ((i : ℕ) → IsNarrow (f i)) → AllByRecursion IsNarrow (list_of n f)
+unfolding list_of
+narrow-list_of zero f h = tt
+narrow-list_of (suc n) f h = (h 0, narrow-list_of n (λ i. f (suc i)) (λ i. h (suc i)))
 
 pub coordinate-list_of : (n : ℕ) (f : ℕ → ℤ) (j : ℕ) → j < n → coordinate (list_of n f) j ≡ f j
 unfolding list_of

@@ -8,6 +8,7 @@ pub mod DecimalValues
 pub mod DenseRows
 pub mod Divisors
 pub mod Folds
+pub mod Lengths
 pub mod Lowest
 pub mod NarrowSums
 pub mod Pushed

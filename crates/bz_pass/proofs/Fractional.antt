@@ -7,7 +7,7 @@ use Rattle.std.proofs.Math.IntN.{*ℤ_comm}
 use Rattle.bz_algebra.proofs.Ring.{*ℤ_assoc, mul_add, add_mul, mul_neg, neg_mul, mul_left, mul_right, mul_positive, mul_le_left, mul_le_right, cancel_le_left, cancel_le_right, cancel_lt_right, cancel_right, positive-ne}
 use Rattle.bz_num.specs.declared.Frac.{Frac}
 use Rattle.bz_model.specs.Points.{IsWhole}
-use Rattle.bz_tree.specs.Boxes.{IsFloor, IsCeiling}
+use Rattle.bz_num.specs.Rounding.{IsFloor, IsCeiling}
 
 -- ---- o / q is v / d
 -- at most n

@@ -20,7 +20,7 @@ use Rattle.bz_model.proofs.MeetingParts.{all_both, all_then, numbers_within}
 use Rattle.bz_tree.specs.Integers.{IntegerHolds}
 use Rattle.bz_model.specs.PartPoints.{HasPointShape, IsPointOf}
 use Rattle.bz_model.specs.Decomposed.{IsDecomposed}
-use Rattle.bz_model.proofs.Numbered.{list_of, length-list_of, coordinate-list_of}
+use Rattle.bz_model.proofs.Numbered.{list_of, length-list_of, narrow-list_of, coordinate-list_of}
 use Rattle.bz_pass.proofs.Optimality.{either}
 use Rattle.bz_pass.proofs.PointsOfParts.{AreFeasible, parts_are_feasible}
 use Rattle.bz_tree.specs.Verdicts.{PassesUnbounded}
@@ -151,7 +151,14 @@ module _ (m : Model) (p ray : List ℤ) (q n : ℤ) (c : HasItsColumns m) (f : I
 -- the same point with etas that are 0
 abbrev without_etas : List ℕ → Parts → Parts
 without_etas part parts = record {
-  master = record { den = parts.master.den; x = parts.master.x; eta = list_of (blocks_of part) (λ b. pos 0) };
+  master = record {
+    den = parts.master.den;
+    x = parts.master.x;
+    eta = list_of (blocks_of part) (λ b. pos 0);
+    den_narrow = parts.master.den_narrow;
+    x_narrow = parts.master.x_narrow;
+    eta_narrow = narrow-list_of (blocks_of part) (λ b. pos 0) (λ b. omega arith);
+  };
   blocks = parts.blocks;
 }
 

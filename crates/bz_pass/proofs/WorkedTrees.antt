@@ -82,22 +82,53 @@ part = 0 ∷ 1 ∷ []
 
 abbrev parts : Parts
 parts = record {
-  master = record { den = pos 1; x = pos 1 ∷ []; eta = pos 0 ∷ [] };
-  blocks = record { times = pos 1; y = pos 0 ∷ [] } ∷ [];
+  master = record {
+    den = pos 1;
+    x = pos 1 ∷ [];
+    eta = pos 0 ∷ [];
+    den_narrow = omega arith;
+    x_narrow = (omega arith, tt);
+    eta_narrow = (omega arith, tt);
+  };
+  blocks = record { times = pos 1; y = pos 0 ∷ []; times_narrow = omega arith; y_narrow = (omega arith, tt) } ∷ [];
 }
 
--- -eta <= 0 and -6 x - eta <= -3
+-- -eta <= 0
+abbrev cut_of_bound : Cut
+cut_of_bound = record {
+  block = 1;
+  mu = (1, pos 3) ∷ [];
+  gcd = pos 1;
+  alpha = [];
+  p0 = pos 1;
+  beta = pos 0;
+  gcd_narrow = omega arith;
+  p0_narrow = omega arith;
+  beta_narrow = omega arith;
+}
+
+-- -6 x - eta <= -3
+abbrev cut_of_row : Cut
+cut_of_row = record {
+  block = 1;
+  mu = (0, pos 3) ∷ [];
+  gcd = pos 1;
+  alpha = (0, negsuc 5) ∷ [];
+  p0 = pos 1;
+  beta = negsuc 2;
+  gcd_narrow = omega arith;
+  p0_narrow = omega arith;
+  beta_narrow = omega arith;
+}
+
 abbrev cuts : List Cut
-cuts =
-    record { block = 1; mu = (1, pos 3) ∷ []; gcd = pos 1; alpha = []; p0 = pos 1; beta = pos 0 }
-    ∷ record { block = 1; mu = (0, pos 3) ∷ []; gcd = pos 1; alpha = (0, negsuc 5) ∷ []; p0 = pos 1; beta = negsuc 2 }
-    ∷ []
+cuts = cut_of_bound ∷ cut_of_row ∷ []
 
 abbrev leaf_below : Leaf
-leaf_below = record { lambda = (0, pos 4) ∷ (3, pos 1) ∷ []; delta = pos 1; bound = pos 3 }
+leaf_below = record { lambda = (0, pos 4) ∷ (3, pos 1) ∷ []; delta = pos 1; bound = pos 3; delta_narrow = omega arith; bound_narrow = omega arith }
 
 abbrev leaf_above : Leaf
-leaf_above = record { lambda = (1, pos 2) ∷ (2, pos 1) ∷ []; delta = pos 1; bound = pos 2 }
+leaf_above = record { lambda = (1, pos 2) ∷ (2, pos 1) ∷ []; delta = pos 1; bound = pos 2; delta_narrow = omega arith; bound_narrow = omega arith }
 
 abbrev tree : Tree
 tree = Tree.fork 0 (pos 0) (pos 1) (Tree.tip leaf_below) (Tree.tip leaf_above)
@@ -122,7 +153,7 @@ is_root cost = record {
   rounded = ((record { at_least = omega (arith, ints); least = omega (arith, ints) }, record { at_most = omega (arith, ints); greatest = omega (arith, ints) }), tt);
 }
 
-cuts_valid : IsValid (two costs) part (record { block = 1; mu = (1, pos 3) ∷ []; gcd = pos 1; alpha = []; p0 = pos 1; beta = pos 0 }) × IsValid (two costs) part (record { block = 1; mu = (0, pos 3) ∷ []; gcd = pos 1; alpha = (0, negsuc 5) ∷ []; p0 = pos 1; beta = negsuc 2 })
+cuts_valid : IsValid (two costs) part cut_of_bound × IsValid (two costs) part cut_of_row
 cuts_valid = (
   record {
     block = (omega arith, omega arith);
@@ -251,10 +282,10 @@ alone = 0 ∷ []
 
 -- -2 x <= -1 with twice x <= 0, and 2 x <= 1 with twice -x <= -1
 abbrev empty_below : Leaf
-empty_below = record { lambda = (1, pos 1) ∷ (2, pos 2) ∷ []; delta = pos 0; bound = pos 1 }
+empty_below = record { lambda = (1, pos 1) ∷ (2, pos 2) ∷ []; delta = pos 0; bound = pos 1; delta_narrow = omega arith; bound_narrow = omega arith }
 
 abbrev empty_above : Leaf
-empty_above = record { lambda = (0, pos 1) ∷ (3, pos 2) ∷ []; delta = pos 0; bound = pos 1 }
+empty_above = record { lambda = (0, pos 1) ∷ (3, pos 2) ∷ []; delta = pos 0; bound = pos 1; delta_narrow = omega arith; bound_narrow = omega arith }
 
 below_is_empty : LeafHolds half alone (with_upper 0 (pos 0) root) [] empty_below
 below_is_empty = record {

@@ -1,6 +1,7 @@
 //! Columns that may not be where they are.
-ghost use Rattle.std.specs.Prelude.{◌≡◌, ◌<◌, ◌^◌, length, MatchOption};
+ghost use Rattle.std.specs.Prelude.{◌≡◌, length, MatchOption};
 ghost use Rattle.std.specs.List.{AllByRecursion, enumerate_from};
+ghost use Rattle.bz_model.specs.Limits.{IsWithinLimits};
 ghost use Rattle.bz_model.specs.Parting.{part_of};
 ghost use Rattle.bz_model.specs.Strict.{IsInOneBlock, IsStrictColumn};
 ghost use Rattle.bz_split.specs.SplitFaults.{IsColumnFault, IsSplitFault};
@@ -26,7 +27,7 @@ fn column_fault(own: u32, j: u32, column: &Column) -> Option<SplitFault>
 /// What is wrong with the first column that may not be where it is.
 pub(crate) fn first_column_fault(model: &Model, part: &[u32]) -> Option<SplitFault>
     requires numbers { length part.now ≡ length model.now.columns }
-    requires few { length model.now.columns < 2 ^ 28 }
+    requires limits { IsWithinLimits model.now }
     requires rows { AllByRecursion (λ row. IsInOneBlock part.now row.terms) model.now.rows }
     ensures { MatchOption result (AllByRecursion (λ e. IsStrictColumn (part_of part.now e.0) e.1) (enumerate_from 0 model.now.columns)) (IsSplitFault model.now part.now) }
 {

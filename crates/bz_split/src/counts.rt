@@ -1,5 +1,6 @@
 //! How many rows each part has.
-ghost use Rattle.std.specs.Prelude.{ℕ, ◌≡◌, ◌+◌, ◌<◌, ◌≤◌, ◌^◌, length, slice_index_or, IfOk};
+ghost use Rattle.std.specs.Prelude.{ℕ, ◌≡◌, ◌+◌, ◌≤◌, length, slice_index_or, IfOk};
+ghost use Rattle.bz_model.specs.Limits.{IsWithinLimits};
 ghost use Rattle.bz_model.specs.Parting.{blocks_of};
 ghost use Rattle.bz_model.specs.Strict.{HasItsColumns, IsPartition};
 ghost use Rattle.bz_split.specs.Sizes.{rows_of_part};
@@ -13,7 +14,7 @@ use std::alloc::Global;
 pub fn rows_by_part(alloc: Global, model: &Model, part: &[u32]) -> Result<Vec<u32>, OutOfMemory>
     requires indexes { HasItsColumns model.now }
     requires partition { IsPartition model.now part.now }
-    requires few { length model.now.rows < 2 ^ 28 }
+    requires limits { IsWithinLimits model.now }
     ensures parts { IfOk result (λ counts. length counts.items ≡ blocks_of part.now + 1) }
     ensures rows { IfOk result (λ counts. (b : ℕ) → b ≤ blocks_of part.now → slice_index_or counts.items b 0 ≡ rows_of_part model.now part.now b) }
 {

@@ -1,7 +1,8 @@
 //! Rows that join two blocks.
-ghost use Rattle.std.specs.Prelude.{◌≡◌, ◌<◌, ◌^◌, length, MatchOption};
+ghost use Rattle.std.specs.Prelude.{◌≡◌, length, MatchOption};
 ghost use Rattle.std.specs.List.{AllByRecursion};
 ghost use Rattle.bz_algebra.specs.Sums.{AllBelow};
+ghost use Rattle.bz_model.specs.Limits.{IsWithinLimits};
 ghost use Rattle.bz_model.specs.Strict.{HasItsColumns, IsInOneBlock};
 ghost use Rattle.bz_split.specs.SplitFaults.{AreTwoBlocks, IsSplitFault};
 
@@ -28,7 +29,7 @@ fn two_blocks_of(part: &[u32], terms: &SparseRow) -> Option<(u32, u32)>
 pub(crate) fn first_joined_row(model: &Model, part: &[u32]) -> Option<SplitFault>
     requires columns { HasItsColumns model.now }
     requires numbers { length part.now ≡ length model.now.columns }
-    requires few { length model.now.rows < 2 ^ 28 }
+    requires limits { IsWithinLimits model.now }
     ensures { MatchOption result (AllByRecursion (λ row. IsInOneBlock part.now row.terms) model.now.rows) (IsSplitFault model.now part.now) }
 {
     for (i, row) in model.rows.as_slice().iter().enumerate() {

@@ -1,7 +1,8 @@
 //! How many inequalities each part has.
-ghost use Rattle.std.specs.Prelude.{ℕ, List, ◌≡◌, ◌+◌, ◌*◌, ◌<◌, ◌≤◌, ◌==◌, ◌^◌, length, if◌then◌else◌, MatchOption};
+ghost use Rattle.std.specs.Prelude.{ℕ, List, ◌≡◌, ◌+◌, ◌*◌, ◌<◌, ◌≤◌, ◌==◌, length, if◌then◌else◌, MatchOption};
 ghost use Rattle.std.specs.List.{AllByRecursion, enumerate_from};
 ghost use Rattle.bz_algebra.specs.Sums.{AllBelow};
+ghost use Rattle.bz_model.specs.Limits.{IsWithinLimits, list_limit};
 ghost use Rattle.bz_model.specs.Parting.{blocks_of, part_of};
 ghost use Rattle.bz_model.specs.Strict.{HasItsColumns, IsInOneBlock, IsStrict, IsStrictColumn, size_of};
 ghost use Rattle.bz_split.specs.Sizes.{column_size, row_size, sum_of};
@@ -58,7 +59,7 @@ fn column_sides(own: u32, b: u32, column: &Column) -> u32
 /// How many inequalities of part `b` rows give.
 fn sides_of_rows(part: &[u32], b: u32, rows: &[Row]) -> u32
     requires columns { AllByRecursion (λ row. AllBelow (length part.now) row.terms) rows.now }
-    requires few { length rows.now < 2 ^ 28 }
+    requires few { length rows.now < list_limit }
     ensures value { result ≡ sum_of (row_size part.now b) rows.now }
     ensures most { result ≤ 2 * length rows.now }
 {
@@ -72,7 +73,7 @@ fn sides_of_rows(part: &[u32], b: u32, rows: &[Row]) -> u32
 /// How many inequalities of part `b` columns give, with the two sides of the master's box of each integer column.
 fn sides_of_columns(part: &[u32], b: u32, columns: &[Column]) -> u32
     requires numbers { length part.now ≡ length columns.now }
-    requires few { length columns.now < 2 ^ 28 }
+    requires few { length columns.now < list_limit }
     ensures value { result ≡ sum_of (column_size part.now b) (enumerate_from 0 columns.now) }
     ensures most { result ≤ 2 * length columns.now }
 {
@@ -88,8 +89,7 @@ fn sides_of_columns(part: &[u32], b: u32, columns: &[Column]) -> u32
 fn size(model: &Model, part: &[u32], b: u32) -> u32
     requires columns { HasItsColumns model.now }
     requires numbers { length part.now ≡ length model.now.columns }
-    requires few { length model.now.columns < 2 ^ 28 }
-    requires few_rows { length model.now.rows < 2 ^ 28 }
+    requires limits { IsWithinLimits model.now }
     ensures { result ≡ size_of model.now part.now b }
 {
     sides_of_rows(part, b, model.rows.as_slice())
@@ -101,8 +101,7 @@ pub(crate) fn first_too_large(model: &Model, part: &[u32]) -> Option<SplitFault>
     requires indexes { HasItsColumns model.now }
     requires numbers { length part.now ≡ length model.now.columns }
     requires blocks { blocks_of part.now ≤ 256 }
-    requires few { length model.now.columns < 2 ^ 28 }
-    requires few_rows { length model.now.rows < 2 ^ 28 }
+    requires limits { IsWithinLimits model.now }
     requires rows { AllByRecursion (λ row. IsInOneBlock part.now row.terms) model.now.rows }
     requires columns { AllByRecursion (λ e. IsStrictColumn (part_of part.now e.0) e.1) (enumerate_from 0 model.now.columns) }
     ensures { MatchOption result (IsStrict model.now part.now) (IsSplitFault model.now part.now) }

@@ -1,5 +1,6 @@
 //! The split of a model by a partition.
-ghost use Rattle.std.specs.Prelude.{◌≡◌, ◌⊎◌, ◌<◌, ◌^◌, length, IfErr, IfOk, MatchOption};
+ghost use Rattle.std.specs.Prelude.{◌≡◌, ◌⊎◌, IfErr, IfOk, MatchOption};
+ghost use Rattle.bz_model.specs.Limits.{IsWithinLimits};
 ghost use Rattle.bz_model.specs.Strict.{HasItsColumns, IsPartition, IsStrict};
 ghost use Rattle.bz_split.specs.SplitFaults.{IsSplitFault};
 ghost use Rattle.bz_split.specs.declared.faults.SplitFault.TheVariants.{OutOfMemory};
@@ -16,8 +17,7 @@ use std::alloc::Global;
 fn find_fault(model: &Model, part: &[u32]) -> Option<SplitFault>
     requires indexes { HasItsColumns model.now }
     requires partition { IsPartition model.now part.now }
-    requires few { length model.now.columns < 2 ^ 28 }
-    requires few_rows { length model.now.rows < 2 ^ 28 }
+    requires limits { IsWithinLimits model.now }
     ensures { MatchOption result (IsStrict model.now part.now) (IsSplitFault model.now part.now) }
 {
     if let Some(fault) = first_joined_row(model, part) {
@@ -35,8 +35,7 @@ fn find_fault(model: &Model, part: &[u32]) -> Option<SplitFault>
 pub fn split(alloc: Global, model: Model, part: Items<u32>) -> Result<bz_model::Split, Unsplit>
     requires indexes { HasItsColumns model }
     requires partition { IsPartition model part }
-    requires few { length model.columns < 2 ^ 28 }
-    requires few_rows { length model.rows < 2 ^ 28 }
+    requires limits { IsWithinLimits model }
     ensures ok { IfOk result (λ s. s ≡ record { model = model; part = part }) }
     ensures strict { IfOk result (λ _. IsStrict model part) }
     ensures fault { IfErr result (λ u. (u.fault ≡ OutOfMemory) ⊎ IsSplitFault model part u.fault) }

@@ -1,9 +1,9 @@
 pub mod Boxes
 pub mod Ends
 pub mod Integers
+pub mod Laws
 pub mod LeafSides
 pub mod Leaves
-pub mod Narrow
 pub mod TreeFits
 pub mod Trees
 pub mod Verdicts

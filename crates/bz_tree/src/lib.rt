@@ -13,7 +13,7 @@ mod sharing;
 
 pub use boxes::{root_box, split_box};
 pub use integer_columns::{integer_column, integer_positions};
-pub use laws::nodes_are_of_one_tree;
+pub use laws::{leaves_keep, nodes_are_of_one_tree, splits_cover};
 pub use leaf_sides::{Side, Sides};
 pub use records::{Leaf, NodeBox, TreeNode};
 

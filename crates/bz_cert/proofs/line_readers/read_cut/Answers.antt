@@ -12,5 +12,5 @@ pub returns-in_err-behind : goal.returns-in_err-behind
 returns-in_err-behind c =
     let e : c.in_ok-numbers.numbers.items ≡ (cut_line c.in_ok-cut.cut).numbers = sym c.as_slice.ensures.value ∙ c.in_ok-cut.ensures.0 in
     feed_refused _ (Word.Cut ∷ []) _ _ Word.Cut _ _ _ _ c.from_residual-in_err-behind.ensures.1 c.in_err-behind.ensures
-    (inl refl) c.in_ok-numbers.ensures (λ before t. t) (cut_numbers _ _ e)
-    (λ before. (cut_numbers _ _ e, c.in_ok-cut.ensures.1.alpha.sparse, c.in_ok-cut.ensures.1.mu.sparse))
+    (inl refl) c.in_ok-numbers.ensures (λ before t. t) (cut_numbers _ c.in_ok-cut.cut e)
+    (λ before. (cut_numbers _ c.in_ok-cut.cut e, c.in_ok-cut.ensures.1.alpha.sparse, c.in_ok-cut.ensures.1.mu.sparse))
