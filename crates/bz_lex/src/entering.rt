@@ -20,11 +20,7 @@ fn greatest_size(tableau: &Tableau, column: u32) -> u128
 
 // The choice of the columns up to this one, with its greatest size. Any column in which the objective row is negative
 // would do; by this choice small numbers stay small.
-fn next_choice(
-    tableau: &Tableau,
-    choice: Option<(u32, u128)>,
-    column: u32,
-) -> Option<(u32, u128)>
+fn next_choice(tableau: &Tableau, choice: Option<(u32, u128)>, column: u32) -> Option<(u32, u128)>
     requires column { column < factor_column tableau.now }
     requires choice { IsChoiceOf column tableau.now choice }
     ensures { IsChoiceOf (suc column) tableau.now result }

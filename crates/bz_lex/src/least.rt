@@ -10,10 +10,7 @@ use bz_tableau::{Answer, Tableau, Vals};
 use std::alloc::{AllocError, Global};
 
 /// The point and the multipliers of the basis, or the first place where a number of the point is wide.
-pub fn least_answer(
-    alloc: Global,
-    tableau: &Tableau,
-) -> Result<Result<Answer, usize>, AllocError>
+pub fn least_answer(alloc: Global, tableau: &Tableau) -> Result<Result<Answer, usize>, AllocError>
     requires { IsShownBasis tableau.now }
     ensures { IfOk result (λ outcome. MatchResult outcome
         (λ a. ShowsLeast tableau.now a)

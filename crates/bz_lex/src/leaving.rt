@@ -26,13 +26,7 @@ fn number_at(tableau: &Tableau, first: &[u32], row: u32, place: usize) -> i128
 }
 
 // The order of two rows, each divided by its number in the column.
-fn cmp_rows(
-    tableau: &Tableau,
-    first: &[u32],
-    column: u32,
-    row: u32,
-    other: u32,
-) -> Ordering
+fn cmp_rows(tableau: &Tableau, first: &[u32], column: u32, row: u32, other: u32) -> Ordering
     requires phase { IsOnPhase first.now tableau.now }
     requires column { column < factor_column tableau.now }
     requires row { row < length tableau.now.basis }

@@ -19,11 +19,7 @@ pub enum PhaseEnd {
 }
 
 // One turn of the phase that began at the basis `first`: its end, or else a pivot.
-fn turn(
-    alloc: Global,
-    tableau: &mut Tableau,
-    first: &[u32],
-) -> Result<Option<PhaseEnd>, LpStop>
+fn turn(alloc: Global, tableau: &mut Tableau, first: &[u32]) -> Result<Option<PhaseEnd>, LpStop>
     requires { IsOnPhase first.now tableau.old }
     ensures turned { IfOk result (λ end. MatchOption end
         (IsPhasePivot first.now tableau.old tableau.new)

@@ -1,4 +1,4 @@
-use Rattle.std.proofs.Common.{rules, arith, FitsSigned, to_z-of_z, ◌≡◌, ◌+◌}
+use Rattle.std.proofs.Common.{rules, arith, FitsSigned, to_z-of_z, ◌≡◌}
 use Rattle.std.specs.Int.{w128}
 use Rattle.bz_tableau.specs.Tables.{factor_column}
 use Rattle.bz_lex.specs.Shown.{IsShownOrder}

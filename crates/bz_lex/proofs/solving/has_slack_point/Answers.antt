@@ -1,5 +1,5 @@
 -- Each turn looks at one row more.
-use Rattle.std.proofs.Common.{◌≡◌, ◌<◌, ◌<ℤ◌, ◌≤ℤ◌, pos, ℕ, List, length, get_or, subst, sym, arith, add-one, rules, FitsSigned, to_z-of_z}
+use Rattle.std.proofs.Common.{◌≡◌, ◌<◌, ◌≤ℤ◌, pos, List, length, get_or, subst, arith, add-one, rules, FitsSigned, to_z-of_z}
 use Rattle.std.specs.Int.{w128}
 use Rattle.std.proofs.lemmas.Int.{ints}
 use Rattle.bz_algebra.proofs.Bounded.{below_suc}

@@ -1,5 +1,5 @@
 -- Each turn brings one row to the goal.
-use Rattle.std.proofs.Common.{rules, ◌≡◌, ◌<◌, ℕ, false, length, ap, sym, subst, ◌∙◌, arith}
+use Rattle.std.proofs.Common.{rules, ◌≡◌, ◌<◌, ℕ, false, length, sym, subst, ◌∙◌, arith}
 use Rattle.bz_tableau.specs.declared.answers.LpStop.{LpStop}
 use Rattle.bz_lex.specs.Refusals.{IsFirstStop}
 use Rattle.bz_lex.proofs.GoalWays.{IsOnWay, way_first, way_next, way_count, way_refused, way_within, way_point}
