@@ -12,7 +12,8 @@ use Rattle.bz_model.specs.declared.Model.{Model}
 use Rattle.bz_model.specs.Parting.{column_at, integers_of, position_of}
 use Rattle.bz_model.specs.Points.{coordinate}
 use Rattle.bz_model.proofs.MeetingParts.{all_both}
-use Rattle.bz_tree.specs.Boxes.{Box, IsCeiling, IsFloor, IsRootBox}
+use Rattle.bz_num.specs.Rounding.{IsCeiling, IsFloor}
+use Rattle.bz_tree.specs.Boxes.{Box, IsRootBox}
 use Rattle.bz_tree.specs.Trees.{IsSplitOf}
 use Rattle.bz_model.specs.Decomposed.{IsDecomposed}
 use Rattle.bz_model.proofs.BoundedIntegers.{IsBoundedInMaster, integers_bounded}

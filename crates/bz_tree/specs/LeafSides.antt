@@ -8,7 +8,6 @@ use Rattle.bz_model.specs.Points.{coordinate}
 use Rattle.bz_cut.specs.declared.Cut.{Cut}
 use Rattle.bz_tree.specs.Boxes.{Box}
 use Rattle.bz_tree.specs.Leaves.{side_of_cut, side_of_master}
-use Rattle.bz_cut.specs.Narrow.{IsNarrowCut}
 use Rattle.bz_tree.specs.declared.leaf_sides.Side.{Side}
 use Rattle.bz_tree.specs.declared.leaf_sides.Sides.{Sides}
 use Rattle.bz_tree.specs.declared.leaf_sides.Side.TheVariants as side
@@ -42,4 +41,3 @@ pub record AreSides (s : Sides) : Type 0 where
   pub lowers : length s.lower.now ≡ length s.positions.now
   pub uppers : length s.upper.now ≡ length s.positions.now
   pub narrow : AllByRecursion IsNarrow s.lower.now
-  pub cuts : AllByRecursion IsNarrowCut s.cuts.now

@@ -11,7 +11,7 @@ pub returns-in-Row : goal.returns-in-Row
 returns-in-Row c =
     let fits : FitsSigned w128 c.at.result = search rules in
     let here = row_at c.args.self.now.rows.now c.args.self.now.positions.now (record { lower = c.args.self.now.lower.now; upper = c.args.self.now.upper.now }) c.args.self.now.cuts.now c.args.n c.in-Row.i c.index-self-i.result c.in-Row.ensures in
-    rw (to_z-of_z fits) (c.at.ensures ∙ ap (λ (i : Ineq). coef i.master c.args.position) (sym here) ∙ ap (λ (es : List (ℕ × ℤ)). coef es c.args.position) (master_is (sides_in c.args.self.now) c.args.n))
+    rw (to_z-of_z fits) (c.at.ensures.value ∙ ap (λ (i : Ineq). coef i.master c.args.position) (sym here) ∙ ap (λ (es : List (ℕ × ℤ)). coef es c.args.position) (master_is (sides_in c.args.self.now) c.args.n))
 
 pub returns-in-Upper : goal.returns-in-Upper
 returns-in-Upper c =
@@ -29,4 +29,4 @@ pub returns-in-OfCut : goal.returns-in-OfCut
 returns-in-OfCut c =
     let fits : FitsSigned w128 c.at-in-OfCut.result = search rules in
     let here = cut_at c.args.self.now.rows.now c.args.self.now.positions.now (record { lower = c.args.self.now.lower.now; upper = c.args.self.now.upper.now }) c.args.self.now.cuts.now c.args.n c.in-OfCut.i c.index-self-i-in-OfCut.result c.in-OfCut.ensures in
-    rw (to_z-of_z fits) (c.at-in-OfCut.ensures ∙ ap (λ (i : Ineq). coef i.master c.args.position) (sym here) ∙ ap (λ (es : List (ℕ × ℤ)). coef es c.args.position) (master_is (sides_in c.args.self.now) c.args.n))
+    rw (to_z-of_z fits) (c.at-in-OfCut.ensures.value ∙ ap (λ (i : Ineq). coef i.master c.args.position) (sym here) ∙ ap (λ (es : List (ℕ × ℤ)). coef es c.args.position) (master_is (sides_in c.args.self.now) c.args.n))
