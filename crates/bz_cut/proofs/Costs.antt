@@ -1,10 +1,10 @@
 -- The inner cost of a part, and the width of a part.
-use Rattle.std.proofs.Common.{◌≡◌, refl, sym, subst, ℕ, suc, ◌<◌, ◌≤◌, ◌^◌, Bool, true, false, cond, List, [], ◌∷◌, length, arith, ℤ, pos, ◌+ℤ◌, nat_eq, neg_ℤ, inl, inr}
+use Rattle.std.proofs.Common.{◌≡◌, refl, subst, ℕ, suc, ◌<◌, ◌≤◌, ◌^◌, Bool, true, false, cond, List, [], ◌∷◌, length, arith, ℤ, pos, ◌+ℤ◌, nat_eq, neg_ℤ, inl, inr}
 use Rattle.std.proofs.lemmas.Int.{ints}
 use Rattle.std.proofs.lemmas.Bool.{cases_eq}
 use Rattle.std.proofs.lemmas.List.Sums.{count_by-le-length}
 use Rattle.bz_algebra.specs.Numbers.{IsNarrow}
-use Rattle.bz_algebra.specs.Sums.{AllBelow, coef}
+use Rattle.bz_algebra.specs.Sums.{coef}
 use Rattle.bz_num.specs.Row.{IsSparseFrom}
 use Rattle.bz_num.proofs.Coefs.{coef-first, coef-rest}
 use Rattle.bz_model.specs.Parting.{column_at, columns_of, width_of, inner_cost, negated, terms_in}
