@@ -1,13 +1,13 @@
 -- All tests of a certificate hold exactly where it passes and fits, and it has one fault at most.
 use Rattle.std.specs.Prelude.{ℕ, ℤ, ◌≡◌, ◌↔◌, List, [], ◌∷◌, ◌++◌, length, Option, Some, None}
 use Rattle.std.specs.List.{AllByRecursion, enumerate_from}
-use Rattle.std.proofs.Common.{inl, inr, refl, subst}
+use Rattle.std.proofs.Common.{refl, subst}
 use Rattle.bz_algebra.specs.Fractions.{IsSameNumber}
 use Rattle.bz_model.specs.declared.Model.{Model}
 use Rattle.bz_model.specs.declared.Parts.{Parts}
 use Rattle.bz_model.specs.Parting.{integers_of}
 use Rattle.bz_model.specs.Points.{objective, IsInfeasible, IsOptimal, IsUnbounded}
-use Rattle.bz_first.specs.Tests.{AllHold, IsFirstFault, Test, each_of, test}
+use Rattle.bz_first.specs.Tests.{AllHold, IsFirstFault, each_of, test}
 use Rattle.bz_first.proofs.TestLemmas.{all_behind, all_front, all_joined, none_where_all, one_fault}
 use Rattle.bz_tree.specs.declared.Leaf.{Leaf}
 use Rattle.bz_tree.specs.Boxes.{Box, IsRootBox}

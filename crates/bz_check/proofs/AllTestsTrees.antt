@@ -1,29 +1,26 @@
 -- The tests of the cuts and of the tree.
-use Rattle.std.specs.Prelude.{ℕ, pos, ◌+◌, ◌<◌, ◌≡◌, ◌<ℤ◌, ◌≤ℤ◌, List, [], ◌∷◌, ◌++◌, length}
+use Rattle.std.specs.Prelude.{ℕ, ◌+◌, ◌≡◌, List, [], ◌∷◌, length}
 use Rattle.std.specs.List.{AllByRecursion}
 use Rattle.std.proofs.Common.{sym, subst}
 use Rattle.bz_model.specs.declared.Model.{Model}
-use Rattle.bz_model.specs.Parting.{blocks_of, width_of}
 use Rattle.bz_cut.specs.declared.Cut.{Cut}
 use Rattle.bz_cut.specs.Cuts.{IsValid}
 use Rattle.bz_cut.specs.CutTests.{cut_tests}
 use Rattle.bz_cut.specs.Fits.{FitsCut}
-use Rattle.bz_cut.specs.Rows.{AreMultipliers}
-use Rattle.bz_first.specs.Tests.{AllHold, answered, each_below, test}
+use Rattle.bz_first.specs.Tests.{AllHold, answered, test}
 use Rattle.bz_cut.proofs.CutTold.{cut_told}
-use Rattle.bz_first.proofs.TestLemmas.{all_behind, all_below_hold, all_front, all_joined, answered_hold, each_below_holds, hold_answered}
+use Rattle.bz_first.proofs.TestLemmas.{all_behind, all_front, all_joined, answered_hold, hold_answered}
 use Rattle.bz_tree.specs.declared.Leaf.{Leaf}
 use Rattle.bz_tree.specs.Boxes.{Box}
-use Rattle.bz_tree.specs.Leaves.{LeafHolds, sides_of}
+use Rattle.bz_tree.specs.Leaves.{sides_of}
 use Rattle.bz_tree.specs.Trees.{Tree, EachLeaf, HoldsOver, IsSplitOf, preorder, with_lower, with_upper}
 use Rattle.bz_model.specs.Decomposed.{IsDecomposed}
-use Rattle.bz_judge.specs.PointTests.{Tests}
 use Rattle.bz_check.specs.CheckTests.{cuts_tests, fault_of_cut, tree_tests}
 use Rattle.bz_tree.specs.Integers.{integer_at}
 use Rattle.bz_judge.proofs.LeavesTold.{leaf_fits, leaf_tested, leaf_told}
 use Rattle.bz_judge.specs.LeafTests.{leaf_tests}
 use Rattle.bz_judge.specs.declared.CheckFault.TheVariants as fault
-use Rattle.bz_tree.specs.TreeFits.{FitsLeaf, FitsTree}
+use Rattle.bz_tree.specs.TreeFits.{FitsTree}
 use Rattle.bz_first.proofs.Lists.{numbered_told, numbered_tested}
 use Rattle.bz_tree.proofs.OneRoot.{one_integer}
 

@@ -1,8 +1,8 @@
 -- The tests of a certificate are decided: it passes and fits, or it has a first fault.
 use Rattle.std.specs.Prelude.{ℕ, ℤ, pos, ◌≡◌, ◌+◌, ◌+ℤ◌, ◌*ℤ◌, ◌⊎◌, List, [], ◌∷◌, ◌++◌, length, Option, Some, None, slice_get}
-use Rattle.std.specs.List.{AllByRecursion, enumerate_from}
+use Rattle.std.specs.List.{enumerate_from}
 use Rattle.std.proofs.Common.{ap, inl, inr, refl, sym, ◌∙◌}
-use Rattle.bz_first.specs.Tests.{AllHold, answered, each_of, test}
+use Rattle.bz_first.specs.Tests.{answered, each_of, test}
 use Rattle.bz_first.proofs.Deciding.{AllTold, HoldOrFault, Told, all_told, at_most_told_z, both, equal_told, equal_told_z, hold_or_fault, less_told_z, then_told, told_answered, told_as, told_each, told_joined}
 use Rattle.bz_model.specs.declared.BlockPart.{BlockPart}
 use Rattle.bz_model.specs.declared.Column.{Column}

@@ -1,4 +1,7 @@
-//! The check of a certificate against a split, and the objective that it states.
+//! The check of a certificate against a split: the tests of its shape, its point, its value, its direction, its cuts and
+//! its tree in their order.
+//!
+//! This crate knows no text and no search.
 #![tactic(auto)]
 
 mod cut_list;

@@ -9,11 +9,11 @@ ghost use Rattle.bz_cut.specs.Narrow.{IsNarrowCut};
 ghost use Rattle.bz_cert.specs.Shapes.{IsNarrowNode};
 ghost use Rattle.bz_check.specs.TreeGoals.{HasPositiveDen};
 
-use bz_judge::CheckFault;
 use crate::tests::{Of, split};
 use crate::tree_goals::Goal;
 use crate::tree_walk::judge_tree;
 use bz_cut::Cut;
+use bz_judge::CheckFault;
 use bz_model::Split;
 use bz_num::{OutOfMemory, SparseRow};
 use bz_tree::{Leaf, TreeNode, integer_positions, root_box};

@@ -1,5 +1,5 @@
 -- The tests of a cut are decided, and with them the tests of sums: a cut is valid and fits, or it has a first fault.
-use Rattle.std.specs.Prelude.{ℕ, ℤ, pos, ◌≡◌, ◌<◌, ◌*ℤ◌, ◌<ℤ◌, ◌^◌, ◌⊎◌, List, [], ◌∷◌, ◌++◌, length, Result, Ok, Err}
+use Rattle.std.specs.Prelude.{ℕ, ℤ, pos, ◌≡◌, ◌<◌, ◌*ℤ◌, ◌<ℤ◌, ◌^◌, ◌⊎◌, List, ◌++◌, length, Result, Ok, Err}
 use Rattle.std.specs.Int.RustNames.{unsigned_abs}
 use Rattle.std.proofs.Common.{refl, inl, inr}
 use Rattle.std.proofs.Math.IntN.{neg_ℤ}

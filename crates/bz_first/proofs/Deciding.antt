@@ -1,12 +1,11 @@
 -- Tests that are decided: all hold, or there is a first that doesn't.
-use Rattle.std.specs.Prelude.{ℕ, zero, suc, ℤ, pos, ◌≡◌, ◌<◌, ◌≤◌, ◌<ℤ◌, ◌≤ℤ◌, ◌⊎◌, List, [], ◌∷◌, ◌++◌, Option, Some, None, IfSome, Bool, true, false}
+use Rattle.std.specs.Prelude.{ℕ, zero, suc, ℤ, ◌≡◌, ◌<◌, ◌≤◌, ◌<ℤ◌, ◌≤ℤ◌, ◌⊎◌, List, [], ◌∷◌, ◌++◌, Option, Some, None, IfSome, Bool, true, false}
 use Rattle.std.specs.Bool.{OnTrue}
 use Rattle.std.specs.List.{AllByRecursion}
 use Rattle.std.proofs.Common.{arith, inl, inr, refl}
 use Rattle.std.proofs.lemmas.Bool.{cases_eq, cases_lt}
 use Rattle.std.proofs.lemmas.Int.{ints}
-use Rattle.bz_first.specs.Tests.{AllHold, IsFirstFault, Test, answered, each_below, each_of, test}
-use Rattle.bz_first.proofs.TestLemmas.{all_front, fault_behind, fault_in_front}
+use Rattle.bz_first.specs.Tests.{AllHold, IsFirstFault, Test, answered, each_below, each_of}
 
 -- it is so, or it is not
 abbrev pub Told : Type 0 → Type 0

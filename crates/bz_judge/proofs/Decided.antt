@@ -1,6 +1,5 @@
 -- The tests of a point, a cost, a value, a direction and a leaf are decided.
 use Rattle.std.specs.Prelude.{ℕ, ℤ, pos, ◌≡◌, ◌*ℤ◌, ◌+ℤ◌, ◌<ℤ◌, ◌≤ℤ◌, List, [], ◌∷◌, ◌++◌, length}
-use Rattle.std.specs.Int.{◌∣◌}
 use Rattle.std.specs.Int.RustNames.{unsigned_abs}
 use Rattle.std.specs.List.{enumerate_from}
 use Rattle.std.proofs.Common.{ap, arith, inl, inr, sym, ◌∙◌}
@@ -80,10 +79,13 @@ point_decided m part root parts l =
 
 -- ---- the costs and the value
 pub cost_decided : (m : Model) (part : List ℕ) (master : Master) (e : ℕ × BlockPart) → AllTold (cost_tests m part master e)
-cost_decided m part master e = (sum_told (row_pairs (terms_in part e.0 (inner_cost m)) e.1.y), λ s. (
+cost_decided m part master e = (
+  sum_told (row_pairs (terms_in part e.0 (inner_cost m)) e.1.y),
+  λ s. (
     narrow_told (eta_of master e.0 *ℤ e.1.times),
     λ n. (at_most_told_z (dot (terms_in part e.0 (inner_cost m)) (coordinate e.1.y)) (eta_of master e.0 *ℤ e.1.times), λ h. tt),
-))
+  ),
+)
 
 pub value_decided : (m : Model) (part : List ℕ) (master : Master) (value : ℤ) → AllTold (value_tests m part master value)
 value_decided m part master value = (
@@ -100,7 +102,7 @@ row_told ray row = told_as (λ h. record { at_least = h.0; at_most = h.1 }) (λ 
 bound_told : (ray : List ℤ) (e : ℕ × Column) → AllTold (ray_bound_tests ray e)
 bound_told ray e = (
   both (some_told (λ f. pos 0 ≤ℤ coordinate ray e.0) e.1.lower (λ f. at_most_told_z (pos 0) (coordinate ray e.0)))
-  (λ l. some_told (λ f. coordinate ray e.0 ≤ℤ pos 0) e.1.upper (λ f. at_most_told_z (coordinate ray e.0) (pos 0))),
+      (λ l. some_told (λ f. coordinate ray e.0 ≤ℤ pos 0) e.1.upper (λ f. at_most_told_z (coordinate ray e.0) (pos 0))),
   λ a. tt,
 )
 

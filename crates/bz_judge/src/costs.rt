@@ -45,7 +45,12 @@ fn cost_sum(split: &Split, part: u32, point: &[i128]) -> Result<i128, WideSum>
 }
 
 /// Tests that the inner cost of block `b` is at most its eta.
-pub fn judge_cost(split: &Split, master: &Master, b: u32, block: &BlockPart) -> Result<(), CheckFault>
+pub fn judge_cost(
+    split: &Split,
+    master: &Master,
+    b: u32,
+    block: &BlockPart,
+) -> Result<(), CheckFault>
     requires some { 0 < b }
     requires block { b ≤ blocks_of split.now.part }
     requires eta { length master.now.eta ≡ blocks_of split.now.part }

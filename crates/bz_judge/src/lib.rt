@@ -24,5 +24,5 @@ pub use integers::judge_integers;
 pub use laws::tests_tell;
 pub use leaf_check::judge_leaf;
 pub use points::{judge_block, judge_blocks, judge_master_rows, judge_point};
-pub use ray::{judge_ray, judge_rows};
+pub use ray::{judge_ray, judge_ray_rows};
 pub use value::judge_value;

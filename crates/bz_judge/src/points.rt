@@ -109,7 +109,12 @@ fn judge_block_rows(
 }
 
 /// Whether block `b` holds at the point.
-pub fn judge_block(split: &Split, master: &Master, b: u32, block: &BlockPart) -> Result<(), CheckFault>
+pub fn judge_block(
+    split: &Split,
+    master: &Master,
+    b: u32,
+    block: &BlockPart,
+) -> Result<(), CheckFault>
     requires block { b ≤ blocks_of split.now.part }
     requires x { length master.now.x ≡ width_of split.now.part 0 }
     requires y { length block.now.y ≡ width_of split.now.part b }

@@ -72,7 +72,7 @@ fn judge_row(r: u32, row: &Row, ray: &[i128]) -> Result<(), CheckFault>
 }
 
 /// Tests that the direction keeps the sides of all rows.
-pub fn judge_rows(rows: &[Row], ray: &[i128]) -> Result<(), CheckFault>
+pub fn judge_ray_rows(rows: &[Row], ray: &[i128]) -> Result<(), CheckFault>
     requires few { length rows.now < 2 ^ 32 }
     requires within { AllByRecursion (λ row. AllBelow (length ray.now) row.terms) rows.now }
     ensures { Judges (each_of (ray_row_tests ray.now) (enumerate_from 0 rows.now)) result }
@@ -150,7 +150,7 @@ pub fn judge_ray(split: &Split, ray: &[i128]) -> Result<(), CheckFault>
     let model = split.model();
     let columns = model.columns.as_slice();
     judge_integers(columns, ray)?;
-    judge_rows(model.rows.as_slice(), ray)?;
+    judge_ray_rows(model.rows.as_slice(), ray)?;
     judge_bounds(columns, ray)?;
     judge_ray_cost(model, ray)
 }

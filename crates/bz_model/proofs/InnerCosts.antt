@@ -1,5 +1,5 @@
 -- The inner cost speaks of columns, and that of a part of the part's positions.
-use Rattle.std.specs.Prelude.{ℕ, ◌≡◌, Bool, true, false, ℤ, List, length, if◌then◌else◌}
+use Rattle.std.specs.Prelude.{ℕ, Bool, true, false, ℤ, List, length, if◌then◌else◌}
 use Rattle.std.proofs.Common.{sym, subst}
 use Rattle.bz_algebra.specs.Sums.{AllBelow}
 use Rattle.bz_model.specs.declared.records.Model.{Model}

@@ -1,4 +1,5 @@
-//! Mixed-integer linear models, their decompositions into a master and blocks, and the inequalities of each part.
+//! Mixed-integer linear models, their decompositions into a master and blocks, the inequalities of each part and what holds
+//! at a point of the parts, and the objective that a value states.
 #![tactic(auto)]
 
 mod growing;

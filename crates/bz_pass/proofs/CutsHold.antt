@@ -1,16 +1,16 @@
 -- A valid cut holds at every feasible point, with the block's inner cost there as its eta.
-use Rattle.std.specs.Prelude.{ℕ, suc, ◌≡◌, Bool, true, false, ℤ, ◌+ℤ◌, ◌*ℤ◌, ◌≤ℤ◌, neg_ℤ, List, length, if◌then◌else◌}
+use Rattle.std.specs.Prelude.{ℕ, suc, ◌≡◌, ℤ, ◌+ℤ◌, ◌*ℤ◌, ◌≤ℤ◌, neg_ℤ, List}
 use Rattle.std.specs.List.{AllByRecursion}
-use Rattle.std.proofs.Common.{sym, subst, ◌∙◌}
-use Rattle.bz_algebra.specs.Sums.{dot, coef, upto, AllBelow}
+use Rattle.std.proofs.Common.{◌∙◌}
+use Rattle.bz_algebra.specs.Sums.{dot, coef, upto}
 use Rattle.bz_model.specs.declared.Model.{Model}
 use Rattle.bz_model.specs.Meeting.{MeetsAllParts}
-use Rattle.bz_model.specs.Parting.{blocks_of, width_of, terms_in, negated, inequalities_of, inner_cost}
+use Rattle.bz_model.specs.Parting.{blocks_of, width_of, terms_in, inequalities_of, inner_cost}
 use Rattle.bz_model.specs.Points.{coordinate, IsFeasible}
 use Rattle.bz_model.specs.Splits.{FitsPart}
 use Rattle.bz_model.proofs.Inequalities.{inequalities_fit}
 use Rattle.bz_model.proofs.MeetingParts.{all_then, feasible_meets, meeting_is_feasible}
-use Rattle.bz_model.proofs.PartSums.{at_part, dot_by_parts, negated_within, terms_in_within}
+use Rattle.bz_model.proofs.PartSums.{at_part, dot_by_parts}
 use Rattle.bz_cut.specs.declared.Cut.{Cut}
 use Rattle.bz_cut.specs.Cuts.{IsValid}
 use Rattle.bz_model.specs.Decomposed.{IsDecomposed}

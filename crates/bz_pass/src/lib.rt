@@ -1,4 +1,4 @@
-//! What it is for a certificate of each verdict to pass, and the laws that make what it says true.
+//! The laws that make true what a certificate of each verdict says where it passes.
 //!
 //! This crate knows no text and no search.
 #![tactic(auto)]

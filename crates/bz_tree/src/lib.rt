@@ -1,4 +1,5 @@
-//! The boxes and the trees of branch and bound, and what it is for a tree to hold over a box.
+//! The boxes and the trees of branch and bound, what it is for a tree to hold over a box, and what parts, cuts and a tree
+//! are to show for a verdict.
 //!
 //! This crate knows no text and no search.
 #![tactic(auto)]

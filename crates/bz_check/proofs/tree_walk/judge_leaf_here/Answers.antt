@@ -1,5 +1,5 @@
 -- The sides that are told by number are those of the leaf.
-use Rattle.std.proofs.Common.{◌≡◌, ◌∙◌, subst, List, [], ◌∷◌}
+use Rattle.std.proofs.Common.{◌∙◌, subst, List, [], ◌∷◌}
 use Rattle.bz_model.specs.declared.Ineq.{Ineq}
 use Rattle.bz_first.specs.Tests.{AllHold, IsFirstFault, test}
 use Rattle.bz_first.proofs.Chains.{stopped}
