@@ -3,7 +3,6 @@ ghost use Rattle.std.specs.Prelude.{◌≡◌, ◌<◌, ◌*ℤ◌, ◌≤ℤ◌
 ghost use Rattle.bz_model.specs.Parting.{blocks_of, width_of};
 ghost use Rattle.bz_cut.specs.Rows.{AreMultipliers};
 ghost use Rattle.bz_first.specs.Tests.{Judges, each_below};
-ghost use Rattle.bz_tree.specs.Narrow.{IsNarrowLeaf};
 ghost use Rattle.bz_judge.specs.LeafTests.{leaf_bound_tests, leaf_eta_tests, leaf_form_tests, leaf_master_tests, leaf_rhs_tests, leaf_tests};
 ghost use Rattle.bz_tree.specs.LeafSides.{AreSides, sides_in};
 
@@ -65,7 +64,6 @@ fn judge_positions(split: &Split, sides: &Sides, node: u32, leaf: &Leaf) -> Resu
 fn judge_eta(sides: &Sides, node: u32, leaf: &Leaf, eta: u32) -> Result<(), CheckFault>
     requires sides { AreSides sides.now }
     requires lambda { AreMultipliers (length (sides_in sides.now)) leaf.now.lambda }
-    requires narrow { IsNarrowLeaf leaf.now }
     ensures { Judges (leaf_eta_tests (sides_in sides.now) node leaf.now eta) result }
 {
     let sum = side_sum(sides, &leaf.lambda, Place::Eta(eta));
@@ -82,7 +80,6 @@ fn judge_eta(sides: &Sides, node: u32, leaf: &Leaf, eta: u32) -> Result<(), Chec
 fn judge_etas(split: &Split, sides: &Sides, node: u32, leaf: &Leaf) -> Result<(), CheckFault>
     requires sides { AreSides sides.now }
     requires lambda { AreMultipliers (length (sides_in sides.now)) leaf.now.lambda }
-    requires narrow { IsNarrowLeaf leaf.now }
     ensures { Judges (each_below (blocks_of split.now.part) (leaf_eta_tests (sides_in sides.now) node leaf.now)) result }
 {
     for eta in 0..split.blocks() {
@@ -95,7 +92,6 @@ fn judge_etas(split: &Split, sides: &Sides, node: u32, leaf: &Leaf) -> Result<()
 fn judge_right_sides(sides: &Sides, node: u32, leaf: &Leaf) -> Result<(), CheckFault>
     requires sides { AreSides sides.now }
     requires lambda { AreMultipliers (length (sides_in sides.now)) leaf.now.lambda }
-    requires narrow { IsNarrowLeaf leaf.now }
     ensures { Judges (leaf_rhs_tests (sides_in sides.now) node leaf.now) result }
 {
     let sum = side_sum(sides, &leaf.lambda, Place::Right);
@@ -125,7 +121,6 @@ fn judge_bound(node: u32, leaf: &Leaf) -> Result<(), CheckFault>
 /// Tests that the leaf at the node holds over the sides. It takes no memory.
 pub fn judge_leaf(split: &Split, sides: &Sides, node: u32, leaf: &Leaf) -> Result<(), CheckFault>
     requires sides { AreSides sides.now }
-    requires narrow { IsNarrowLeaf leaf.now }
     ensures { Judges (leaf_tests split.now.model split.now.part (sides_in sides.now) node leaf.now) result }
 {
     judge_form(sides, node, leaf)?;
