@@ -1,4 +1,3 @@
-pub mod Costs
 pub mod CutTold
 pub mod NarrowSums
 pub mod Steps

@@ -1,8 +1,9 @@
+pub mod PartCosts
 pub mod Inequalities
+pub mod Joins
 pub mod MeetingParts
 pub mod PartSums
+pub mod Placing
 pub mod Positions
 pub mod Sparse
-pub mod Joins
-pub mod Placing
 pub mod WorkedModel

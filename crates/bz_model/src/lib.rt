@@ -1,6 +1,7 @@
 //! Mixed-integer linear models, their decompositions into a master and blocks, and the inequalities of each part.
 #![tactic(auto)]
 
+mod costs;
 mod growing;
 mod laws;
 mod parts;
@@ -11,6 +12,7 @@ mod sharing;
 mod sides;
 mod splitting;
 
+pub use costs::inner_number;
 pub use laws::feasible_is_meeting_all_parts;
 pub use parts::{BlockPart, Master, Parts};
 pub use places::greatest;
