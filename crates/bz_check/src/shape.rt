@@ -6,7 +6,6 @@ ghost use Rattle.bz_first.specs.Tests.{Judges, test};
 ghost use Rattle.bz_model.specs.PartPoints.{HasBlockShape, HasMasterShape, HasPointShape, HasShape};
 ghost use Rattle.bz_judge.specs.declared.CheckFault.TheVariants.{Shape};
 
-use bz_cut::width;
 use bz_judge::CheckFault;
 use bz_model::{BlockPart, Master, Parts, Split};
 
@@ -15,7 +14,7 @@ fn block_has_shape(split: &Split, b: u32, block: &BlockPart) -> bool
     requires { b ≤ blocks_of split.now.part }
     ensures { IsTrue result ↔ HasBlockShape split.now.part (b, block.now) }
 {
-    0 < block.times && block.y.as_slice().len() == width(split, b) as usize
+    0 < block.times && block.y.as_slice().len() == split.width(b) as usize
 }
 
 /// The same of all blocks.
@@ -36,7 +35,7 @@ fn blocks_have_shape(split: &Split, blocks: &[BlockPart]) -> bool
 fn master_has_shape(split: &Split, master: &Master) -> bool
     ensures { IsTrue result ↔ HasMasterShape split.now.part master.now }
 {
-    0 < master.den && master.x.as_slice().len() == width(split, 0) as usize
+    0 < master.den && master.x.as_slice().len() == split.width(0) as usize
 }
 
 /// Whether the lists of the point fit the split, over positive denominators, whatever the etas are.

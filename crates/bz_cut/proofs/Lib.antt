@@ -1,4 +1,3 @@
-pub mod Costs
 pub mod CutDecided
 pub mod CutTold
 pub mod Steps

@@ -10,7 +10,7 @@ ghost use Rattle.bz_first.specs.Tests.{Judges, each_below};
 
 use crate::faults::CutFault;
 use crate::judging::{judge_equation, judge_opposite, judge_product};
-use crate::lists::{all_below, are_multipliers, inner_cost_at, width};
+use crate::lists::{all_below, are_multipliers};
 use crate::records::Cut;
 use crate::sums::{Terms, column_sum, rhs_sum};
 use bz_model::Split;
@@ -29,7 +29,7 @@ fn judge_form(split: &Split, cut: &Cut) -> Result<(), CutFault>
     if !has_block(split, cut) {
         return Err(CutFault::Invalid);
     }
-    if !all_below(&cut.alpha, width(split, 0)) {
+    if !all_below(&cut.alpha, split.width(0)) {
         return Err(CutFault::Invalid);
     }
     if !are_multipliers(&cut.mu, split.inequalities(cut.block).len()) {
@@ -54,7 +54,7 @@ fn judge_own_at(split: &Split, cut: &Cut, factor: i128, position: u32) -> Result
 {
     let rows = split.inequalities(cut.block);
     let sum = column_sum(&cut.mu, rows, Terms::Own, position);
-    let cost = inner_cost_at(split, cut.block, position);
+    let cost = split.inner_cost(cut.block, position);
     judge_opposite(sum, factor, cost, CutFault::Invalid, CutFault::Wide)
 }
 
@@ -65,7 +65,7 @@ fn judge_own(split: &Split, cut: &Cut, factor: i128) -> Result<(), CutFault>
     requires factor { factor ≡ cut.now.gcd *ℤ cut.now.p0 }
     ensures { Judges (each_below (width_of split.now.part cut.now.block) (own_tests split.now.model split.now.part cut.now)) result }
 {
-    for position in 0..width(split, cut.block) {
+    for position in 0..split.width(cut.block) {
         judge_own_at(split, cut, factor, position)?;
     }
     Ok(())
@@ -89,7 +89,7 @@ fn judge_master(split: &Split, cut: &Cut) -> Result<(), CutFault>
     requires mu { AreMultipliers (length (inequalities_of split.now.model split.now.part cut.now.block)) cut.now.mu }
     ensures { Judges (each_below (width_of split.now.part 0) (master_tests split.now.model split.now.part cut.now)) result }
 {
-    for position in 0..width(split, 0) {
+    for position in 0..split.width(0) {
         judge_master_at(split, cut, position)?;
     }
     Ok(())

@@ -18,7 +18,7 @@ pub use judging::{
     judge_at_most, judge_equation, judge_fold, judge_opposite, judge_product, judge_sum,
 };
 pub use laws::{cut_faults_are_unique, cut_tests_tell};
-pub use lists::{all_below, are_multipliers, inner_cost_at, inner_number, width};
+pub use lists::{all_below, are_multipliers};
 pub use records::Cut;
 pub use sums::{Terms, column_sum, rhs_sum};
 

@@ -10,7 +10,7 @@ use Rattle.bz_model.specs.Parting.{width_of, inner_cost, terms_in}
 use Rattle.bz_model.specs.Points.{coordinate}
 use Rattle.bz_model.specs.Splits.{Decomposition, IsSplit}
 use Rattle.bz_model.proofs.Sparse.{sparse_negated, sparse_terms_in}
-use Rattle.bz_cut.proofs.Costs.{negated_where}
+use Rattle.bz_model.proofs.PartCosts.{negated_where}
 use Rattle.bz_model.proofs.InnerCosts.{cost_terms_within, cost_within, decomposed}
 use Rattle.bz_judge.specs.Sums.{Begins}
 use Rattle.bz_model.specs.PointSums.{row_pairs}

@@ -10,7 +10,7 @@ ghost use Rattle.bz_judge.specs.Sums.{Begins};
 ghost use Rattle.bz_model.specs.PointSums.{row_pairs};
 
 use crate::faults::{COST_SUMS, CheckFault, wide_in};
-use bz_cut::{inner_cost_at, judge_at_most};
+use bz_cut::judge_at_most;
 use bz_model::{BlockPart, Master, Split};
 use bz_num::{Folding, WideSum};
 
@@ -26,7 +26,7 @@ pub fn begin_cost(split: &Split, part: u32, point: &[i128]) -> Result<Folding, W
         return Ok(folding);
     }
     for (position, number) in point.iter().enumerate() {
-        let cost = inner_cost_at(split, part, position as u32);
+        let cost = split.inner_cost(part, position as u32);
         if cost != 0 {
             folding.push(cost, *number)?;
         }

@@ -8,7 +8,7 @@ ghost use Rattle.bz_tree.specs.LeafSides.{AreSides, sides_in};
 
 use crate::faults::{CheckFault, LEAF_SUMS, wide_in};
 use crate::leaf_sums::{Place, side_sum};
-use bz_cut::{are_multipliers, inner_cost_at, judge_opposite, judge_sum, width};
+use bz_cut::{are_multipliers, judge_opposite, judge_sum};
 use bz_first::{judge, judge_order};
 use bz_model::Split;
 use bz_num::narrow_negation;
@@ -38,7 +38,7 @@ fn judge_position(
     ensures { Judges (leaf_master_tests split.now.model split.now.part (sides_in sides.now) node leaf.now position) result }
 {
     let sum = side_sum(sides, &leaf.lambda, Place::Master(position));
-    let cost = inner_cost_at(split, 0, position);
+    let cost = split.inner_cost(0, position);
     judge_opposite(
         sum,
         leaf.delta,
@@ -54,7 +54,7 @@ fn judge_positions(split: &Split, sides: &Sides, node: u32, leaf: &Leaf) -> Resu
     requires lambda { AreMultipliers (length (sides_in sides.now)) leaf.now.lambda }
     ensures { Judges (each_below (width_of split.now.part 0) (leaf_master_tests split.now.model split.now.part (sides_in sides.now) node leaf.now)) result }
 {
-    for position in 0..width(split, 0) {
+    for position in 0..split.width(0) {
         judge_position(split, sides, node, leaf, position)?;
     }
     Ok(())

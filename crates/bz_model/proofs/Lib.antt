@@ -5,6 +5,7 @@ pub mod Joins
 pub mod Lowest
 pub mod MeetingParts
 pub mod Numbered
+pub mod PartCosts
 pub mod PartSums
 pub mod Placing
 pub mod Positions

@@ -2,6 +2,7 @@
 //! at a point of the parts, and the objective that a value states.
 #![tactic(auto)]
 
+mod costs;
 mod growing;
 mod laws;
 mod objective;
@@ -14,6 +15,7 @@ mod sides;
 mod splitting;
 mod stated;
 
+pub use costs::inner_number;
 pub use laws::feasible_is_meeting_all_parts;
 pub use objective::{numerator, stated_of};
 pub use parts::{BlockPart, Master, Parts};

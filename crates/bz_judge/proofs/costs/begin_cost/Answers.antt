@@ -21,22 +21,22 @@ loop-position-init c =
 pub returns-in_err-push-clause-begins : goal.returns-in_err-push-clause-begins
 returns-in_err-push-clause-begins c =
     let sparse : IsSparse c.args.split.now.model.cost = rw c.model.ensures.value at c.as_slice.ensures.sparse in
-    let cost : ℤ = c.inner_cost_at-cost.result in
+    let cost : ℤ = c.inner_cost-cost.result in
     let number : ℤ = coordinate c.args.point.now c.loop-position.position in
     let fits : FitsSigned w128 cost = search rules in
     let fits_too : FitsSigned w128 number = search rules in
     let wide : goes_wide c.loop-position.folding.sum (cost, number) ≡ true = sym (rw (to_z-of_z fits, to_z-of_z fits_too) at c.in_err-push.ensures.fails) in
-    stands_wide (terms_in c.args.split.now.part c.args.part (inner_cost c.args.split.now.model)) c.args.point.now c.loop-position.position cost c.loop-position.folding c.in_err-push.field-0.0 c.from_residual.result c.from_residual.ensures.1 (cost_sparse c.args.split.now c.args.part c.model.ensures.split sparse) (sym c.inner_cost_at-cost.ensures.value) (λ z. grind (arith, ints)) wide c.in_err-push.ensures.place c.loop-position.invariant.rest
+    stands_wide (terms_in c.args.split.now.part c.args.part (inner_cost c.args.split.now.model)) c.args.point.now c.loop-position.position cost c.loop-position.folding c.in_err-push.field-0.0 c.from_residual.result c.from_residual.ensures.1 (cost_sparse c.args.split.now c.args.part c.model.ensures.split sparse) (sym c.inner_cost-cost.ensures.value) (λ z. grind (arith, ints)) wide c.in_err-push.ensures.place c.loop-position.invariant.rest
 
 pub loop-position-preserved : goal.loop-position-preserved
 loop-position-preserved c =
     let sparse : IsSparse c.args.split.now.model.cost = rw c.model.ensures.value at c.as_slice.ensures.sparse in
     let terms : List (ℕ × ℤ) = terms_in c.args.split.now.part c.args.part (inner_cost c.args.split.now.model) in
     let sparse_terms : IsSparse terms = cost_sparse c.args.split.now c.args.part c.model.ensures.split sparse in
-    let cost : ℤ = c.inner_cost_at-cost.result in
+    let cost : ℤ = c.inner_cost-cost.result in
     let number : ℤ = coordinate c.args.point.now c.loop-position.position in
     let fits : FitsSigned w128 cost = search rules in
-    let known : coef terms c.loop-position.position ≡ cost = sym c.inner_cost_at-cost.ensures.value in
+    let known : coef terms c.loop-position.position ≡ cost = sym c.inner_cost-cost.ensures.value in
     elim c.if-cost-ne0.branch [
       | then-cost-ne0+in_ok-push w ↦
           let fits_too : FitsSigned w128 number = search rules in

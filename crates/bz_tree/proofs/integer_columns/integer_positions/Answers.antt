@@ -1,7 +1,7 @@
 -- The positions so far are those of the integer columns so far.
 use Rattle.std.proofs.Common.{arith, ◌<◌, length}
 use Rattle.bz_model.specs.Parting.{columns_of}
-use Rattle.bz_cut.proofs.Costs.{width_small}
+use Rattle.bz_model.proofs.PartCosts.{width_small}
 use Rattle.bz_tree.proofs.IntegerPositions.{number_within, so_far-end, so_far-less, so_far-more, so_far-start}
 use Rattle.bz_tree.proofs.integer_columns.integer_positions.Goals as goal
 use Rattle.bz_tree.proofs.integer_columns.integer_positions.Goals.{then-column+in_ok-push, else-column}

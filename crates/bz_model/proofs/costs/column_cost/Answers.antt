@@ -1,7 +1,7 @@
 use Rattle.std.proofs.Common.{rules, sym, FitsSigned, to_z-of_z}
 use Rattle.std.specs.Int.{w128}
-use Rattle.bz_cut.proofs.Costs.{coef_turned}
-use Rattle.bz_cut.proofs.lists.column_cost.Goals as goal
+use Rattle.bz_model.proofs.PartCosts.{coef_turned}
+use Rattle.bz_model.proofs.costs.column_cost.Goals as goal
 
 pub returns-clause-value : goal.returns-clause-value
 returns-clause-value c =
