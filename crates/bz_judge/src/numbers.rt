@@ -7,8 +7,8 @@ ghost use Rattle.bz_first.specs.Tests.{Judges, test};
 ghost use Rattle.bz_model.specs.PointSums.{row_pairs};
 
 use crate::faults::CheckFault;
-use bz_cut::{judge_fold, row_sum};
-use bz_num::{SparseRow, fold};
+use bz_cut::judge_fold;
+use bz_num::{SparseRow, fold, row_sum};
 
 /// The sum of the products, in order, or the fault where it is wide.
 pub fn sum_of(pairs: &[(i128, i128)], wide: CheckFault) -> Result<i128, CheckFault>

@@ -15,7 +15,8 @@ ghost use Rattle.bz_judge.specs.LeftSides.{FitsLengths, left_side_of, left_side_
 use crate::faults::{BLOCK_DENOMINATOR, BLOCK_SUMS, CheckFault, MASTER_SUMS, wide_in};
 use crate::integers::judge_integers;
 use crate::numbers::{sum_at, sum_of};
-use bz_cut::{judge_at_most, judge_product, row_sum};
+use bz_cut::{judge_at_most, judge_product};
+use bz_num::row_sum;
 use bz_model::{BlockPart, Ineq, Master, Parts, Split};
 use bz_tree::NodeBox;
 
