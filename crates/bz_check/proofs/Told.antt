@@ -1,6 +1,6 @@
 -- What the tests of a certificate tell of it.
 use Rattle.std.specs.Prelude.{pos, ◌≡◌, ◌⊎◌, [], Result, Ok, Err, IfErr, IfOk}
-use Rattle.std.proofs.Common.{ap, inl, inr, refl}
+use Rattle.std.proofs.Common.{arith, ap, inl, inr, refl}
 use Rattle.bz_model.specs.Splits.{Decomposition, IsSplit}
 use Rattle.bz_first.specs.Tests.{JudgesUnless}
 use Rattle.bz_tree.specs.declared.Leaf.{Leaf}
@@ -22,7 +22,7 @@ use Rattle.bz_model.proofs.InnerCosts.{decomposed}
 tree_of : (c : Certificate) (verdict : Verdict) → HasTreeOf verdict c.tree → (tree : Tree) × HasTree c verdict tree
 tree_of c Optimal h = (h.tree, h.is_tree)
 tree_of c Infeasible h = (h.tree, h.is_tree)
-tree_of c Unbounded h = (Tree.tip (let leaf : Leaf = record { lambda = []; delta = pos 0; bound = pos 0 } in leaf), tt)
+tree_of c Unbounded h = (Tree.tip (let leaf : Leaf = record { lambda = []; delta = pos 0; bound = pos 0; delta_narrow = omega arith; bound_narrow = omega arith } in leaf), tt)
 
 -- a shaped certificate has a tree, where its verdict has one
 pub some_tree : (c : Certificate) → IsShaped c → (tree : Tree) × HasTree c c.verdict tree

@@ -6,7 +6,7 @@ use Rattle.bz_algebra.specs.Numbers.{IsNarrow}
 use Rattle.bz_model.specs.Points.{coordinate}
 use Rattle.bz_tree.specs.declared.NodeBox.{NodeBox}
 use Rattle.bz_tree.specs.Boxes.{Box}
-use Rattle.bz_tree.specs.Ends.{IsNarrowBox, box_of}
+use Rattle.bz_tree.specs.Ends.{box_of}
 use Rattle.bz_tree.specs.Trees.{with_lower, with_upper}
 use Rattle.bz_tree.proofs.NarrowSides.{narrow_at, set_narrow}
 use Rattle.bz_check.specs.declared.open_splits.Frame.{Frame}
@@ -58,11 +58,11 @@ entered frames frames' place left right box box' b f =
 pub last_open : (count : ℕ) (w : Walk) (rest : List Frame) (frame : Frame) → IsWalk count w → w.frames.items ≡ rest ++ frame ∷ [] → AllByRecursion (IsOpenSplit count) rest × IsOpenSplit count frame
 last_open count w rest frame h e = all_but_last (IsOpenSplit count) rest frame (rw e at h.splits)
 
-pub walk_starts : (count : ℕ) (root : NodeBox) (w : Walk) → length root.lower ≡ count → length root.upper ≡ count → IsNarrowBox root → box_in w ≡ box_of root → w.frames.items ≡ [] → IsWalk count w
-walk_starts count root w l u n b f =
+pub walk_starts : (count : ℕ) (root : NodeBox) (w : Walk) → length root.lower ≡ count → length root.upper ≡ count → box_in w ≡ box_of root → w.frames.items ≡ [] → IsWalk count w
+walk_starts count root w l u b f =
     let low : w.lower.items ≡ root.lower = ap (λ (x : Box). x.lower) b in
     let up : w.upper.items ≡ root.upper = ap (λ (x : Box). x.upper) b in
-    record { lowers = ap length low ∙ l; uppers = ap length up ∙ u; narrow = rw low n.lower; splits = rw f tt }
+    record { lowers = ap length low ∙ l; uppers = ap length up ∙ u; narrow = rw low root.lower_narrow; splits = rw f tt }
 
 pub walk_turns : (count place : ℕ) (upper right : ℤ) (old new : Walk) → IsWalk count old → place < count → IsNarrow right → Turns place upper right old new → IsWalk count new
 walk_turns count place upper right old new h l n t =

@@ -7,9 +7,7 @@ ghost use Rattle.std.specs.List.{AllByRecursion};
 ghost use Rattle.bz_algebra.specs.Numbers.{IsNarrow};
 ghost use Rattle.bz_model.specs.Worked.{AreWorkedColumns};
 ghost use Rattle.bz_cut.specs.Worked.{AreLinked};
-ghost use Rattle.bz_cert.specs.Shapes.{AreCuts, AreNarrowParts, AreNodes, IsShaped};
-ghost use Rattle.bz_cut.specs.Narrow.{IsNarrowCut};
-ghost use Rattle.bz_tree.specs.Narrow.{IsNarrowLeaf};
+ghost use Rattle.bz_cert.specs.Shapes.{AreCuts, AreNodes, IsShaped};
 
 use crate::{CheckFault, check, stated_of};
 use bz_cert::{Certificate, Verdict};
@@ -180,13 +178,6 @@ fn narrow(number: i128) -> i128
     if number == i128::MIN { 0 } else { number }
 }
 
-/// That no number of the row is wide. Nothing runs.
-fn show_narrow(row: &SparseRow)
-    ensures { AllByRecursion (λ e. IsNarrow e.1) row.now }
-{
-    let _entries = row.as_slice();
-}
-
 /// The row of a number at one place; the empty row where it is 0 or has no size.
 fn single(alloc: Global, place: u32, number: i128) -> Result<SparseRow, OutOfMemory> {
     if number == 0 || number == i128::MIN {
@@ -212,27 +203,18 @@ fn cut(
     alpha: i128,
     p0: i128,
     beta: i128,
-) -> Result<Cut, OutOfMemory>
-    ensures { IfOk result IsNarrowCut }
-{
-    let mu = pair(alloc, mu.0, 1, mu.1)?;
-    let alpha = single(alloc, 0, alpha)?;
-    show_narrow(&mu);
-    show_narrow(&alpha);
+) -> Result<Cut, OutOfMemory> {
     Ok(Cut {
         block: 1,
-        mu,
+        mu: pair(alloc, mu.0, 1, mu.1)?,
         gcd: 1,
-        alpha,
+        alpha: single(alloc, 0, alpha)?,
         p0: narrow(p0),
         beta: narrow(beta),
     })
 }
 
-fn leaf(lambda: SparseRow, bound: i128) -> Leaf
-    ensures { IsNarrowLeaf result }
-{
-    show_narrow(&lambda);
+fn leaf(lambda: SparseRow, bound: i128) -> Leaf {
     Leaf {
         lambda,
         delta: 1,
@@ -266,9 +248,7 @@ fn one_number(alloc: Global, number: i128) -> Result<Items<i128>, OutOfMemory>
     Ok(Items::from_vec(Vec::from_slice(alloc, &[narrow(number)])?))
 }
 
-fn blocks(alloc: Global, numbers: &Numbers) -> Result<Items<BlockPart>, OutOfMemory>
-    ensures { IfOk result (AllByRecursion (λ block. IsNarrow block.times × AllByRecursion IsNarrow block.y)) }
-{
+fn blocks(alloc: Global, numbers: &Numbers) -> Result<Items<BlockPart>, OutOfMemory> {
     let block = BlockPart {
         times: narrow(numbers.times),
         y: one_number(alloc, numbers.y)?,
@@ -280,8 +260,7 @@ fn blocks(alloc: Global, numbers: &Numbers) -> Result<Items<BlockPart>, OutOfMem
 
 fn parts(alloc: Global, numbers: &Numbers, eta: Items<i128>) -> Result<Parts, OutOfMemory>
     requires { AllByRecursion IsNarrow eta }
-    ensures narrow { IfOk result AreNarrowParts }
-    ensures eta { IfOk result (λ parts. parts.master.eta ≡ eta) }
+    ensures { IfOk result (λ parts. parts.master.eta ≡ eta) }
 {
     let master = Master {
         den: narrow(numbers.den),

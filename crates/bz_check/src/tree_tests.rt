@@ -5,7 +5,6 @@ ghost use Rattle.std.specs.Prelude.{IfOk};
 ghost use Rattle.std.specs.List.{AllByRecursion};
 ghost use Rattle.bz_algebra.specs.Numbers.{IsNarrow};
 ghost use Rattle.bz_num.specs.Row.{IsSparse};
-ghost use Rattle.bz_cut.specs.Narrow.{IsNarrowCut};
 ghost use Rattle.bz_cert.specs.Shapes.{IsNarrowNode};
 ghost use Rattle.bz_check.specs.TreeGoals.{HasPositiveDen};
 
@@ -29,7 +28,6 @@ fn cut_of(
 ) -> Result<Cut, OutOfMemory>
     requires alpha { IsSparse alpha.now }
     requires beta { IsNarrow beta }
-    ensures { IfOk result (λ cut. IsNarrowCut cut) }
 {
     Ok(Cut {
         block: 1,
@@ -41,9 +39,7 @@ fn cut_of(
     })
 }
 
-fn cuts(alloc: Global) -> Result<Vec<Cut>, OutOfMemory>
-    ensures { IfOk result (λ cuts. AllByRecursion IsNarrowCut cuts.items) }
-{
+fn cuts(alloc: Global) -> Result<Vec<Cut>, OutOfMemory> {
     let mut cuts = Vec::with_capacity(alloc, 2)?;
     cuts.push(cut_of(alloc, &[], 0, 1)?)
         .map_err(|_| OutOfMemory)?;

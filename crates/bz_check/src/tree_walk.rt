@@ -1,5 +1,4 @@
 //! Whether a tree of branch and bound holds over the box of the whole model.
-ghost use Rattle.std.proofs.Props.{props};
 ghost use Rattle.std.specs.Prelude.{◌≡◌, ◌↔◌, ◌<◌, ◌≤◌, ◌==◌, ◌+ℤ◌, ◌∷◌, [], ℕ, List, pos, length, IfOk, IsTrue};
 ghost use Rattle.std.specs.List.{AllByRecursion, position_or_len};
 ghost use Rattle.bz_algebra.specs.Numbers.{IsNarrow};
@@ -7,11 +6,9 @@ ghost use Rattle.bz_model.specs.declared.Model.{Model};
 ghost use Rattle.bz_first.specs.Tests.{Judges, JudgesUnless, test};
 ghost use Rattle.bz_tree.specs.declared.TreeNode.{TreeNode};
 ghost use Rattle.bz_tree.specs.Boxes.{Box, IsRootBox};
-ghost use Rattle.bz_tree.specs.Ends.{IsNarrowBox, box_of};
+ghost use Rattle.bz_tree.specs.Ends.{box_of};
 ghost use Rattle.bz_tree.specs.Leaves.{sides_of};
 ghost use Rattle.bz_tree.specs.Trees.{IsSplitOf, IsTreeOf, Tree};
-ghost use Rattle.bz_cut.specs.Narrow.{IsNarrowCut};
-ghost use Rattle.bz_tree.specs.Narrow.{IsNarrowLeaf};
 ghost use Rattle.bz_cert.specs.Shapes.{IsNarrowNode};
 ghost use Rattle.bz_judge.specs.declared.CheckFault.TheVariants as fault;
 ghost use Rattle.bz_tree.specs.Integers.{integer_at, positions_of};
@@ -83,13 +80,11 @@ struct Trial<'a> {
     /// What each leaf is to show.
     goal: Goal,
     ghost are_positions: { positions.now ≡ positions_of split.now.model split.now.part },
-    ghost narrow: { AllByRecursion IsNarrowCut cuts.now } by { Prim.hlevel props },
 }
 
 /// Tests a leaf over the box that the walk has come to.
 fn judge_leaf_here(trial: &Trial<'_>, node: u32, leaf: &Leaf, walk: &Walk) -> Result<(), CheckFault>
     requires walk { IsWalk (length trial.now.positions.now) walk.now }
-    requires leaf { IsNarrowLeaf leaf.now }
     requires goal { HasPositiveDen trial.now.goal }
     ensures { Judges (tip_tests trial.now.split.now.model trial.now.split.now.part (bounds_of trial.now.goal) (sides_of trial.now.split.now.model trial.now.split.now.part (box_in walk.now) trial.now.cuts.now) node leaf.now) result }
 {
@@ -107,7 +102,6 @@ fn judge_leaf_here(trial: &Trial<'_>, node: u32, leaf: &Leaf, walk: &Walk) -> Re
 /// Tests a leaf, and goes on to the next tree that is to come.
 fn visit_leaf(trial: &Trial<'_>, node: u32, leaf: &Leaf, walk: &mut Walk) -> Result<(), CheckFault>
     requires walk { IsWalk (length trial.now.positions.now) walk.old }
-    requires leaf { IsNarrowLeaf leaf.now }
     requires goal { HasPositiveDen trial.now.goal }
     ensures judges { JudgesUnless fault.OutOfMemory (tip_tests trial.now.split.now.model trial.now.split.now.part (bounds_of trial.now.goal) (sides_of trial.now.split.now.model trial.now.split.now.part (box_in walk.old) trial.now.cuts.now) node leaf.now) result }
     ensures next { IfOk result (λ _. GoesOn walk.old walk.new) }
@@ -149,9 +143,7 @@ pub fn judge_tree(
     goal: Goal,
 ) -> Result<(), CheckFault>
     requires root { IsRootBox split.now.model (box_of root) }
-    requires narrow { IsNarrowBox root }
     requires positions { positions.now ≡ positions_of split.now.model split.now.part }
-    requires cuts { AllByRecursion IsNarrowCut cuts.now }
     requires nodes { AllByRecursion IsNarrowNode nodes.now }
     requires few { length nodes.now ≤ 65535 }
     requires goal { HasPositiveDen goal }

@@ -4,7 +4,7 @@ ghost use Rattle.std.specs.List.{enumerate_from};
 ghost use Rattle.bz_model.specs.Splits.{IsSplit};
 ghost use Rattle.bz_first.specs.Tests.{Judges, JudgesUnless, each_of, test};
 ghost use Rattle.bz_tree.specs.Boxes.{IsRootBox};
-ghost use Rattle.bz_tree.specs.Ends.{IsNarrowBox, box_of};
+ghost use Rattle.bz_tree.specs.Ends.{box_of};
 ghost use Rattle.bz_tree.specs.Integers.{positions_of};
 ghost use Rattle.bz_tree.specs.Trees.{IsTreeOf, Tree};
 ghost use Rattle.bz_model.specs.PartPoints.{HasShape};
@@ -60,7 +60,6 @@ fn judge_bound(
     goal: Goal,
 ) -> Result<(), CheckFault>
     requires root { IsRootBox split.now.model (box_of root) }
-    requires narrow { IsNarrowBox root }
     requires positions { positions.now ≡ positions_of split.now.model split.now.part }
     requires cuts { AreCuts cuts.now }
     requires nodes { AreNodes nodes.now }
@@ -81,7 +80,6 @@ fn judge_optimal(
     c: &Certificate,
 ) -> Result<(), CheckFault>
     requires root { IsRootBox split.now.model (box_of root) }
-    requires narrow { IsNarrowBox root }
     requires positions { positions.now ≡ positions_of split.now.model split.now.part }
     requires cuts { AreCuts c.now.cuts }
     requires nodes { AreNodes c.now.tree }
@@ -112,7 +110,6 @@ fn judge_infeasible(
     c: &Certificate,
 ) -> Result<(), CheckFault>
     requires root { IsRootBox split.now.model (box_of root) }
-    requires narrow { IsNarrowBox root }
     requires positions { positions.now ≡ positions_of split.now.model split.now.part }
     requires cuts { AreCuts c.now.cuts }
     requires nodes { AreNodes c.now.tree }
@@ -139,7 +136,6 @@ fn judge_unbounded(
 ) -> Result<(), CheckFault>
     requires root { IsRootBox split.now.model (box_of root.now) }
     requires positions { positions.now ≡ positions_of split.now.model split.now.part }
-    requires few { length split.now.model.rows < 2 ^ 32 }
     ensures { Judges (unbounded_tests split.now.model split.now.part (box_of root.now) parts.now c.now) result }
 {
     let ray = c.ray.as_slice();
@@ -158,9 +154,7 @@ fn judge_over(
 ) -> Result<(), CheckFault>
     requires shaped { IsShaped c.now }
     requires root { IsRootBox split.now.model (box_of root) }
-    requires narrow { IsNarrowBox root }
     requires positions { positions.now ≡ positions_of split.now.model split.now.part }
-    requires few { length split.now.model.rows < 2 ^ 32 }
     ensures { (tree : Tree) → HasTree c.now c.now.verdict tree → JudgesUnless fault.OutOfMemory (check_tests split.now.model split.now.part (box_of root) tree c.now) result }
 {
     match (c.verdict, &c.parts) {
@@ -173,8 +167,7 @@ fn judge_over(
 
 /// Tests what the certificate's verdict needs. It takes memory.
 fn judge_certificate(alloc: Global, split: &Split, c: &Certificate) -> Result<(), CheckFault>
-    requires shaped { IsShaped c.now }
-    requires few { length split.now.model.rows < 2 ^ 32 }
+    requires { IsShaped c.now }
     ensures { Settles split.now c.now result }
 {
     let root = root_box(alloc, split)?;
@@ -186,8 +179,7 @@ fn judge_certificate(alloc: Global, split: &Split, c: &Certificate) -> Result<()
 /// else its first fault. It takes memory, a few numbers for each integer column of the model and for each split of the
 /// tree that is open at once, and answers `OutOfMemory` for want of it.
 pub fn check(alloc: Global, split: &Split, c: &Certificate) -> Result<(), CheckFault>
-    requires shaped { IsShaped c.now }
-    requires few_rows { length split.now.model.rows < 2 ^ 32 }
+    requires { IsShaped c.now }
     ensures passes { IfOk result (λ _. Passes split.now.model split.now.part c.now) }
     ensures fits { IfOk result (λ _. Fits split.now.model split.now.part c.now) }
     ensures split { IfOk result (λ _. IsSplit split.now) }

@@ -143,8 +143,7 @@ fn judge_ray_cost(model: &Model, ray: &[i128]) -> Result<(), CheckFault>
 
 /// Tests that the objective improves without end along the direction.
 pub fn judge_ray(split: &Split, ray: &[i128]) -> Result<(), CheckFault>
-    requires few { length split.now.model.rows < 2 ^ 32 }
-    requires numbers { length ray.now ≡ length split.now.model.columns }
+    requires { length ray.now ≡ length split.now.model.columns }
     ensures { Judges (ray_tests split.now.model ray.now) result }
 {
     let model = split.model();

@@ -19,8 +19,11 @@ new-requires-clause-partition c = rw (c.from_vec-part.ensures, c.in_ok-from_slic
 pub new-requires-clause-strict : goal.new-requires-clause-strict
 new-requires-clause-strict c = rw (c.from_vec-part.ensures, c.in_ok-from_slice.ensures.items) (linked_strict _ c.in_ok-model.model c.in_ok-model.ensures.columns c.in_ok-model.ensures.rows)
 
-pub new-requires-clause-few : goal.new-requires-clause-few
-new-requires-clause-few c = let n = two_columns c.in_ok-model.model.columns c.in_ok-model.ensures.columns in rw n (omega arith)
+pub new-requires-clause-limits : goal.new-requires-clause-limits
+new-requires-clause-limits c =
+    let columns = two_columns c.in_ok-model.model.columns c.in_ok-model.ensures.columns in
+    let rows = one_row _ c.in_ok-model.model.rows c.in_ok-model.ensures.rows in
+    record { columns = rw columns (omega arith); rows = rw rows (omega arith) }
 
 pub returns-in-Ok : goal.returns-in-Ok
 returns-in-Ok c = rw c.in-Ok.ensures.split (one_row _ c.in_ok-model.model.rows c.in_ok-model.ensures.rows)

@@ -18,7 +18,7 @@ loop-node-init c =
     length-map (integers_of c.args.split.now.model) (λ e. position_of c.args.split.now.part e.0) in
     let none : open_in c.new-walk.result ≡ [] = ap reverse c.new-walk.ensures.frames in
     record {
-      walk = walk_starts (length (positions_of c.args.split.now.model c.args.split.now.part)) c.args.root c.new-walk.result (c.requires.root.lowers ∙ sym count) (c.requires.root.uppers ∙ sym count) c.requires.narrow c.new-walk.ensures.root c.new-walk.ensures.frames;
+      walk = walk_starts (length (positions_of c.args.split.now.model c.args.split.now.part)) c.args.root c.new-walk.result (c.requires.root.lowers ∙ sym count) (c.requires.root.uppers ∙ sym count) c.new-walk.ensures.root c.new-walk.ensures.frames;
       stands = λ tree h. stands_first c.args.split.now.model c.args.split.now.part c.args.cuts.now (bounds_of c.args.goal) (box_of c.args.root) tree (box_in c.new-walk.result) (open_in c.new-walk.result) c.args.nodes.now c.new-walk.ensures.root none h;
     }
 

@@ -11,7 +11,7 @@ use Rattle.bz_judge.proofs.ray.judge_ray.Goals as goal
 
 pub judge_ray_rows-requires-clause-within : goal.judge_ray_rows-requires-clause-within
 judge_ray_rows-requires-clause-within c =
-    rw (c.as_slice.ensures, c.model-model.ensures.value) (rows_within c.args.split.now.model (length c.args.ray.now) c.model-model.ensures.split.indexes c.requires.numbers)
+    rw (c.as_slice.ensures, c.model-model.ensures.value) (rows_within c.args.split.now.model (length c.args.ray.now) c.model-model.ensures.split.indexes c.requires)
 
 pub returns-in_err-judge_integers : goal.returns-in_err-judge_integers
 returns-in_err-judge_integers c =
