@@ -16,7 +16,7 @@ fn main(rt: HostRuntime) -> ExitCode {
 /// Does what the program's words ask for.
 fn program<R: Alloc<A = Global> + Env + Files + Print>(rt: &R, alloc: Global) -> Status {
     let mut desk = HostDesk::new(rt);
-    let mut out = HostSink::new(rt);
+    let mut out = HostSink::new(io::writer(rt));
     match read_words(rt, alloc) {
         Ok(words) => run(alloc, words.get(1..).unwrap_or(&[]), &mut desk, &mut out),
         Err(error) if error.kind() == io::ErrorKind::OutOfMemory => out_of_memory(&mut out),

@@ -10,7 +10,7 @@ use Rattle.bz_cert.proofs.TextsOnce.{one_certificate}
 use Rattle.bz_cert.proofs.TextFaults.{no_fault}
 use Rattle.bz_check.proofs.AllTests.{fault_fails}
 use Rattle.std.specs.Prelude.{Result, Ok, Err}
-use Rattle.bz_io.specs.Desk.{Contents}
+use Rattle.bz_io.specs.Desk.{Telling}
 use Rattle.bz_model.specs.Splits.{Decomposition, IsSplit}
 use Rattle.bz_top.specs.declared.job.Job.{Job}
 use Rattle.bz_top.specs.declared.status.Refusal.{Refusal}
@@ -36,11 +36,11 @@ texts_say_one_thing = record {
 }
 
 -- the decomposition that the files give is the one that was made a split
-pub decomposes : (held : Option Contents) (j : Job) (s : Decomposition) → Accepted held j s → IsSplit s → Decomposes held j
-decomposes held j s accepted split =
-    all_decomposed texts_say_one_thing held j s accepted (record { columns = split.indexes; partition = split.partition; strict = split.strict })
+pub decomposes : (told : Option Telling) (j : Job) (s : Decomposition) → Accepted told j s → IsSplit s → Decomposes told j
+decomposes told j s accepted split =
+    all_decomposed texts_say_one_thing told j s accepted (record { columns = split.indexes; partition = split.partition; strict = split.strict })
 
 -- an end behind what was accepted
-pub ends_decomposed : {T : Type 0} (held : Option Contents) (j : Job) (r : Result T Refusal) → Decomposes held j → EndsDecomposed held j r
-ends_decomposed held j (Ok _) h = h
-ends_decomposed held j (Err _) h = inr h
+pub ends_decomposed : {T : Type 0} (told : Option Telling) (j : Job) (r : Result T Refusal) → Decomposes told j → EndsDecomposed told j r
+ends_decomposed told j (Ok _) h = h
+ends_decomposed told j (Err _) h = inr h

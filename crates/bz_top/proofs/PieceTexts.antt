@@ -1,7 +1,8 @@
 -- Putting pieces one after another puts their whole text.
-use Rattle.std.proofs.Common.{◌≡◌, ℕ, ◌+◌, ◌<◌, ◌≤◌, List, [], ◌++◌, length, get_or, drop, Option, Some, None, ap, append_assoc, sym, subst, ◌∷◌}
+use Rattle.std.proofs.Common.{◌≡◌, ℕ, ◌+◌, ◌<◌, ◌≤◌, List, [], ◌++◌, length, get_or, drop, Option, Some, None, ap, append_assoc, sym, ◌∷◌}
 use Rattle.std.proofs.lemmas.List.{append-nil}
 use Rattle.std.specs.Prelude.{Result, Ok, Err, IsErr}
+use Rattle.bz_io.specs.declared.faults.FaultCount.{FaultCount}
 use Rattle.bz_io.specs.Faults.{HasRisen}
 use Rattle.bz_io.specs.Sink.{Takes, TakesPrefix}
 use Rattle.bz_io.specs.Told.{WhereTold}
@@ -44,19 +45,27 @@ text_next pieces i d l = ap pieces_text (left_at pieces i d l)
 pub text_none : (pieces : List Piece) (i : ℕ) → length pieces ≤ i → pieces_text (drop i pieces) ≡ []
 text_none pieces i l = ap pieces_text (none_left pieces i l)
 
+-- a rise behind calls that went well
+pub risen_first : (first then now : FaultCount) → then.number ≡ first.number → HasRisen then now → HasRisen first now
+risen_first first then now same risen = record {
+  rise = λ below. rw (← same) (risen.rise (rw same below));
+  full = λ above. rw (← same) (risen.full (rw same above));
+  last = risen.last;
+}
+
 -- a piece could not be put whole, behind those before it
-pub breaks : {S T E : Type 0} (taken : S → Option (List ℕ)) (faults : S → ℕ) (first then now : S) (piece rest all : List ℕ) (r : Result T E) → IsErr r
-    → Finishes (piece ++ rest) all (taken first) (taken then) → faults then ≡ faults first → WhereTold (TakesPrefix piece) (taken then) (taken now) → HasRisen (faults then) (faults now)
+pub breaks : {S T E : Type 0} (taken : S → Option (List ℕ)) (faults : S → FaultCount) (first then now : S) (piece rest all : List ℕ) (r : Result T E) → IsErr r
+    → Finishes (piece ++ rest) all (taken first) (taken then) → (faults then).number ≡ (faults first).number → WhereTold (TakesPrefix piece) (taken then) (taken now) → HasRisen (faults then) (faults now)
     → Puts taken faults first now all r
 breaks taken faults first then now piece rest all (Ok _) is f same prefix risen = absurd cc
 breaks taken faults first then now piece rest all (Err _) is f same prefix risen = record {
   ok = tt;
   failed = breaks_off piece rest all (taken first) (taken then) (taken now) f prefix;
-  count = subst (λ (n : ℕ). HasRisen n (faults now)) same risen;
+  count = risen_first (faults first) (faults then) (faults now) same risen;
 }
 
 -- every piece was put
-pub finished : {S T E : Type 0} (taken : S → Option (List ℕ)) (faults : S → ℕ) (first then : S) (all : List ℕ) (x : T) → Finishes [] all (taken first) (taken then) → faults then ≡ faults first
+pub finished : {S T E : Type 0} (taken : S → Option (List ℕ)) (faults : S → FaultCount) (first then : S) (all : List ℕ) (x : T) → Finishes [] all (taken first) (taken then) → (faults then).number ≡ (faults first).number
     → Puts {E = E} taken faults first then all (Ok x)
 finished taken faults first then all x f same = record { ok = ends all (taken first) (taken then) f; failed = tt; count = same }
 

@@ -1,7 +1,8 @@
 -- How the program ends behind a refusal.
 use Rattle.std.proofs.Common.{◌≡◌, ◌⊎◌, inl, inr, refl, ℕ, List, Option, sym, subst, ◌∙◌}
 use Rattle.std.specs.Prelude.{Result, Ok, Err, OnOk, OnErr}
-use Rattle.bz_io.specs.Desk.{Contents}
+use Rattle.bz_io.specs.declared.faults.FaultCount.{FaultCount}
+use Rattle.bz_io.specs.Desk.{Telling}
 use Rattle.bz_io.specs.Sink.{Takes, TakesPrefix}
 use Rattle.bz_io.specs.Told.{WhereTold}
 use Rattle.bz_top.specs.declared.job.Job.{Job}
@@ -31,39 +32,39 @@ not_write (refusal.TooLong _) e = absurd cc
 not_write refusal.Memory e = absurd cc
 
 -- ---- what follows of a refusal whose text was put
-pub refuses_breaks : (held : Option Contents) (j : Job) (r : Refusal) (before after : Option (List ℕ)) (faults now : ℕ) (s : Status) → IsCause held j r → Refuses j r before after faults now s → s ≡ status.Write → BreaksOff held j before after
-refuses_breaks held j r before after faults now s cause (inl whole) e = absurd (not_write r (sym whole.status_is ∙ e))
-refuses_breaks held j r before after faults now s cause (inr part) e = record {
+pub refuses_breaks : (told : Option Telling) (j : Job) (r : Refusal) (before after : Option (List ℕ)) (faults now : FaultCount) (s : Status) → IsCause told j r → Refuses j r before after faults now s → s ≡ status.Write → BreaksOff told j before after
+refuses_breaks told j r before after faults now s cause (inl whole) e = absurd (not_write r (sym whole.status_is ∙ e))
+refuses_breaks told j r before after faults now s cause (inr part) e = record {
   text = refusal_text j r;
   said = inr (record { refusal = r; cause = cause; text_is = refl });
   printed = part.printed;
 }
 
-pub refuses_settled : (held : Option Contents) (j : Job) (r : Refusal) (before after : Option (List ℕ)) (faults now : ℕ) (s : Status) → IsEarly r ⊎ Decomposes held j → IsCause held j r → Refuses j r before after faults now s → EndsSettled held j s
-refuses_settled held j r before after faults now s end cause (inl whole) =
-    subst (λ (t : Status). EndsSettled held j t) (sym whole.status_is) (refusal_settled texts_say_one_thing held j r end cause)
-refuses_settled held j r before after faults now s end cause (inr part) =
-    subst (λ (t : Status). EndsSettled held j t) (sym part.status_is) (write_settled held j)
+pub refuses_settled : (told : Option Telling) (j : Job) (r : Refusal) (before after : Option (List ℕ)) (faults now : FaultCount) (s : Status) → IsEarly r ⊎ Decomposes told j → IsCause told j r → Refuses j r before after faults now s → EndsSettled told j s
+refuses_settled told j r before after faults now s end cause (inl whole) =
+    subst (λ (t : Status). EndsSettled told j t) (sym whole.status_is) (refusal_settled texts_say_one_thing told j r end cause)
+refuses_settled told j r before after faults now s end cause (inr part) =
+    subst (λ (t : Status). EndsSettled told j t) (sym part.status_is) (write_settled told j)
 
 -- ---- words that there is no memory for
-pub memory_refused : {T E : Type 0} (put : Result T E) (words : List (List ℕ)) (held : Option Contents) (before after : Option (List ℕ)) → SomeJob words
-    → OnOk put (WhereTold (Takes memory_text) before after) → IsRefused (status_after put status.Memory) → RefusesAsked words held (status_after put status.Memory) before after
-memory_refused (Ok _) words held before after some printed is = record {
+pub memory_refused : {T E : Type 0} (put : Result T E) (words : List (List ℕ)) (told : Option Telling) (before after : Option (List ℕ)) → SomeJob words
+    → OnOk put (WhereTold (Takes memory_text) before after) → IsRefused (status_after put status.Memory) → RefusesAsked words told (status_after put status.Memory) before after
+memory_refused (Ok _) words told before after some printed is = record {
   job = some.job;
   asked = some.asked;
-  refuses = record { refusal = refusal.Memory; status_is = refl; cause = memory_cause held some.job; printed = printed };
+  refuses = record { refusal = refusal.Memory; status_is = refl; cause = memory_cause told some.job; printed = printed };
 }
-memory_refused (Err _) words held before after some printed is = absurd is
+memory_refused (Err _) words told before after some printed is = absurd is
 
-pub memory_written : {T E : Type 0} (put : Result T E) (words : List (List ℕ)) (held : Option Contents) (before after : Option (List ℕ)) → SomeJob words
-    → OnErr put (WhereTold (TakesPrefix memory_text) before after) → status_after put status.Memory ≡ status.Write → BreaksOffAsked words held before after ⊎ BreaksOffUsage words before after
-memory_written (Ok _) words held before after some printed is = absurd cc
-memory_written (Err _) words held before after some printed is = inl (record {
+pub memory_written : {T E : Type 0} (put : Result T E) (words : List (List ℕ)) (told : Option Telling) (before after : Option (List ℕ)) → SomeJob words
+    → OnErr put (WhereTold (TakesPrefix memory_text) before after) → status_after put status.Memory ≡ status.Write → BreaksOffAsked words told before after ⊎ BreaksOffUsage words before after
+memory_written (Ok _) words told before after some printed is = absurd cc
+memory_written (Err _) words told before after some printed is = inl (record {
   job = some.job;
   asked = some.asked;
   breaks = record {
     text = memory_text;
-    said = inr (record { refusal = refusal.Memory; cause = memory_cause held some.job; text_is = refl });
+    said = inr (record { refusal = refusal.Memory; cause = memory_cause told some.job; text_is = refl });
     printed = printed;
   };
 })

@@ -1,7 +1,10 @@
 -- How the program ends behind what a job comes to.
-use Rattle.std.proofs.Common.{◌≡◌, ◌≤◌, inl, refl, ℕ, List, Option, Some, None, arith}
+use Rattle.std.proofs.Common.{◌≡◌, ◌≤◌, inl, inr, refl, ℕ, List, Option, Some, None, arith}
 use Rattle.std.specs.Prelude.{Result, Ok, Err, OnOk, OnErr}
-use Rattle.bz_io.specs.Desk.{Contents}
+use Rattle.std.proofs.lemmas.Bool.{cases_lt}
+use Rattle.bz_io.specs.declared.faults.FaultCount.{FaultCount}
+use Rattle.bz_io.specs.Desk.{Telling}
+use Rattle.bz_io.specs.Faults.{HasRisen, last_count}
 use Rattle.bz_io.specs.Sink.{Takes, TakesPrefix}
 use Rattle.bz_io.specs.Told.{WhereTold}
 use Rattle.bz_model.specs.Splits.{Decomposition}
@@ -18,52 +21,56 @@ use Rattle.bz_top.specs.Texts.{said_text}
 use Rattle.bz_top.proofs.Laws.{texts_say_one_thing}
 use Rattle.bz_top.proofs.Settled.{after_settled, holding_settled, parts_settled}
 
-pub holding_shown : (held : Option Contents) (j : Job) (holding : Holding) → ShownHolding held j holding → Shown held j (Said.Holds holding)
+pub holding_shown : (told : Option Telling) (j : Job) (holding : Holding) → ShownHolding told j holding → Shown told j (Said.Holds holding)
 holding_shown None j holding h = tt
-holding_shown (Some contents) j holding h = h
+holding_shown (Some desk) j holding h = h
 
-pub split_shown : (held : Option Contents) (j : Job) (d : Decomposition) (rows : List ℕ) → ShownParts held j d → Shown held j (Said.Parts d rows)
+pub split_shown : (told : Option Telling) (j : Job) (d : Decomposition) (rows : List ℕ) → ShownParts told j d → Shown told j (Said.Parts d rows)
 split_shown None j d rows h = tt
-split_shown (Some contents) j d rows h = h
+split_shown (Some desk) j d rows h = h
 
-pub said_done : {T E : Type 0} (put : Result T E) (held : Option Contents) (j : Job) (said : Said) (before after : Option (List ℕ)) → IsOfJob j said → Shown held j said
-    → OnOk put (WhereTold (Takes (said_text said)) before after) → status_after put status.Done ≡ status.Done → ShowsOf held j before after
-said_done (Ok _) held j said before after of_job shown printed e = record { said = said; of_job = of_job; shown = shown; printed = printed }
-said_done (Err _) held j said before after of_job shown printed e = absurd cc
+pub said_done : {T E : Type 0} (put : Result T E) (told : Option Telling) (j : Job) (said : Said) (before after : Option (List ℕ)) → IsOfJob j said → Shown told j said
+    → OnOk put (WhereTold (Takes (said_text said)) before after) → status_after put status.Done ≡ status.Done → ShowsOf told j before after
+said_done (Ok _) told j said before after of_job shown printed e = record { said = said; of_job = of_job; shown = shown; printed = printed }
+said_done (Err _) told j said before after of_job shown printed e = absurd cc
 
-pub said_written : {T E : Type 0} (put : Result T E) (held : Option Contents) (j : Job) (said : Said) (before after : Option (List ℕ)) → IsOfJob j said → Shown held j said
-    → OnErr put (WhereTold (TakesPrefix (said_text said)) before after) → status_after put status.Done ≡ status.Write → BreaksOff held j before after
-said_written (Ok _) held j said before after of_job shown printed e = absurd cc
-said_written (Err _) held j said before after of_job shown printed e = record {
+pub said_written : {T E : Type 0} (put : Result T E) (told : Option Telling) (j : Job) (said : Said) (before after : Option (List ℕ)) → IsOfJob j said → Shown told j said
+    → OnErr put (WhereTold (TakesPrefix (said_text said)) before after) → status_after put status.Done ≡ status.Write → BreaksOff told j before after
+said_written (Ok _) told j said before after of_job shown printed e = absurd cc
+said_written (Err _) told j said before after of_job shown printed e = record {
   text = said_text said;
   said = inl (record { said = said; of_job = of_job; shown = shown; text_is = refl });
   printed = printed;
 }
 
 -- what the files show settles the status
-pub said_settled : {T E : Type 0} (put : Result T E) (held : Option Contents) (j : Job) (said : Said) → IsOfJob j said → Decomposes held j → Shown held j said
-    → EndsSettled held j (status_after put status.Done)
-said_settled put held j (Said.Holds holding) of_job decomposed shown =
-    after_settled put held j status.Done (holding_settled texts_say_one_thing held j holding of_job decomposed (shown_holding held shown))
+pub said_settled : {T E : Type 0} (put : Result T E) (told : Option Telling) (j : Job) (said : Said) → IsOfJob j said → Decomposes told j → Shown told j said
+    → EndsSettled told j (status_after put status.Done)
+said_settled put told j (Said.Holds holding) of_job decomposed shown =
+    after_settled put told j status.Done (holding_settled texts_say_one_thing told j holding of_job decomposed (shown_holding told shown))
   where
-    shown_holding : (held : Option Contents) → Shown held j (Said.Holds holding) → ShownHolding held j holding
+    shown_holding : (told : Option Telling) → Shown told j (Said.Holds holding) → ShownHolding told j holding
     shown_holding None h = tt
-    shown_holding (Some contents) h = h
-said_settled put held j (Said.Parts d rows) of_job decomposed shown =
-    after_settled put held j status.Done (parts_settled texts_say_one_thing held j d of_job.0 decomposed (shown_parts held shown))
+    shown_holding (Some desk) h = h
+said_settled put told j (Said.Parts d rows) of_job decomposed shown =
+    after_settled put told j status.Done (parts_settled texts_say_one_thing told j d of_job.0 decomposed (shown_parts told shown))
   where
-    shown_parts : (held : Option Contents) → Shown held j (Said.Parts d rows) → ShownParts held j d
+    shown_parts : (told : Option Telling) → Shown told j (Said.Parts d rows) → ShownParts told j d
     shown_parts None h = tt
-    shown_parts (Some contents) h = h
+    shown_parts (Some desk) h = h
 
--- loads don't make the count of faults fall
-pub loads_no_fall : {T : Type 0} (r : Result T Refusal) (before after : ℕ) → CountsFiles r before after → before ≤ after
+-- no count falls
+risen_no_fall : (before after : FaultCount) → HasRisen before after → before.number ≤ after.number
+risen_no_fall before after risen =
+    elim (cases_lt before.number last_count) [ inl below ↦ omega (arith, risen.rise below) | inr above ↦ omega (arith, risen.full above) ]
+
+pub loads_no_fall : {T : Type 0} (r : Result T Refusal) (before after : FaultCount) → CountsFiles r before after → before.number ≤ after.number
 loads_no_fall (Ok _) before after h = omega (arith, h)
 loads_no_fall (Err (refusal.Model _)) before after h = omega (arith, h)
 loads_no_fall (Err (refusal.Part _)) before after h = omega (arith, h)
 loads_no_fall (Err (refusal.Split _)) before after h = omega (arith, h)
 loads_no_fall (Err (refusal.Cert _)) before after h = omega (arith, h)
 loads_no_fall (Err (refusal.Check _)) before after h = omega (arith, h)
-loads_no_fall (Err (refusal.Read _)) before after h = h.no_fall
+loads_no_fall (Err (refusal.Read _)) before after h = risen_no_fall before after h
 loads_no_fall (Err (refusal.TooLong _)) before after h = omega (arith, h)
 loads_no_fall (Err refusal.Memory) before after h = omega (arith, h)

@@ -10,7 +10,7 @@ use Rattle.bz_model.specs.declared.Model.{Model}
 use Rattle.bz_model.specs.Points.{objective, IsOptimal, IsUnbounded}
 use Rattle.bz_top.specs.declared.job.Job.{Job}
 use Rattle.bz_cert.specs.Fits.{Fits}
-use Rattle.bz_io.specs.Desk.{Contents}
+use Rattle.bz_io.specs.Desk.{Telling}
 use Rattle.bz_cert.specs.Passing.{Passes, PassesAs}
 use Rattle.bz_cert.specs.declared.Certificate.{Certificate}
 use Rattle.bz_cert.specs.declared.Verdict.{Verdict}
@@ -82,10 +82,10 @@ true_of laws d c Unbounded split passes says =
         (passes_as d.model d.part c verdict.Unbounded (Some parts) says e passes)
 
 -- where the desk tells what it holds, the files show what the certificate says
-pub shows : AreTrue → (held : Option Contents) (j : Job) (d : Decomposition) (c : Certificate) (holding : Holding)
-    → IsSplit d → Accepted held j d → Certified held j c → Passes d.model d.part c → Fits d.model d.part c → Says d c holding → ShownHolding held j holding
+pub shows : AreTrue → (told : Option Telling) (j : Job) (d : Decomposition) (c : Certificate) (holding : Holding)
+    → IsSplit d → Accepted told j d → Certified told j c → Passes d.model d.part c → Fits d.model d.part c → Says d c holding → ShownHolding told j holding
 shows laws None j d c holding split accepted read passes fits says = tt
-shows laws (Some contents) j d c holding split accepted read passes fits says = record {
+shows laws (Some desk) j d c holding split accepted read passes fits says = record {
   split = d;
   accepted = accepted;
   certificate = c;

@@ -3,11 +3,11 @@ ghost use Rattle.std.specs.Prelude.{◌≤◌, length, IfErr, IfOk};
 ghost use Rattle.bz_cert.specs.Shapes.{IsShaped};
 ghost use Rattle.bz_cert.specs.Fits.{Fits};
 ghost use Rattle.bz_cert.specs.Passing.{Passes};
-ghost use Rattle.bz_io.specs.Desk.{IsSame};
+ghost use Rattle.bz_io.specs.Desk.{IsAfterLoads, IsSame};
 ghost use Rattle.bz_io.specs.Told.{WhereTold};
 ghost use Rattle.bz_model.specs.Splits.{IsSplit};
 ghost use Rattle.bz_top.specs.Claims.{CountsFiles, HasCert, IsCause};
-ghost use Rattle.bz_top.specs.Loads.{Certified, EndsDecomposed, Reached, RefusesCheck, Says, ShownHolding};
+ghost use Rattle.bz_top.specs.Loads.{Certified, EndsDecomposed, Reached, RefusesCheck, Says, ShownHolding, SinceFirst};
 ghost use Rattle.bz_top.specs.declared.status.File.TheVariants.{Cert as CertFile};
 
 use crate::job::Job;
@@ -22,12 +22,11 @@ use std::alloc::Global;
 
 /// The job's certificate.
 fn load_cert<D: Desk>(alloc: Global, job: &Job, desk: &mut D) -> Result<Certificate, Refusal>
-    requires asked { HasCert job.now }
-    requires reached { Reached (D.held desk.old) job.now CertFile }
-    ensures reads { IfOk result (Certified (D.held desk.old) job.now) }
+    requires { HasCert job.now }
+    ensures reads { SinceFirst 2 (D.told desk.old) (λ told. IfOk result (Certified told job.now)) }
     ensures shaped { IfOk result IsShaped }
-    ensures cause { IfErr result (IsCause (D.held desk.old) job.now) }
-    ensures kept { WhereTold IsSame (D.held desk.old) (D.held desk.new) }
+    ensures cause { SinceFirst 2 (D.told desk.old) (λ told. Reached told job.now CertFile → IfErr result (IsCause told job.now)) }
+    ensures kept { WhereTold (IsAfterLoads 1) (D.told desk.old) (D.told desk.new) }
     ensures count { CountsFiles result (D.faults desk.old) (D.faults desk.new) }
 {
     let text = load_file(alloc, job, File::Cert, desk)?;
@@ -83,10 +82,10 @@ pub(crate) fn check_files<D: Desk>(
     desk: &mut D,
 ) -> Result<Holding, Refusal>
     requires { HasCert job.now }
-    ensures shown { IfOk result (ShownHolding (D.held desk.old) job.now) }
-    ensures cause { IfErr result (IsCause (D.held desk.old) job.now) }
-    ensures decomposed { EndsDecomposed (D.held desk.old) job.now result }
-    ensures kept { WhereTold IsSame (D.held desk.old) (D.held desk.new) }
+    ensures shown { IfOk result (ShownHolding (D.told desk.old) job.now) }
+    ensures cause { IfErr result (IsCause (D.told desk.old) job.now) }
+    ensures decomposed { EndsDecomposed (D.told desk.old) job.now result }
+    ensures kept { WhereTold IsSame (D.told desk.old) (D.told desk.new) }
     ensures count { CountsFiles result (D.faults desk.old) (D.faults desk.new) }
 {
     let split = load_split(alloc, job, desk)?;

@@ -14,6 +14,8 @@ mod put_parts;
 mod running;
 mod said;
 #[cfg(test)]
+mod size_tests;
+#[cfg(test)]
 mod split_tests;
 mod status;
 #[cfg(test)]

@@ -1,12 +1,12 @@
 //! The model, the partition and the split of a job, from its files.
-ghost use Rattle.std.specs.Prelude.{◌≡◌, ◌≤◌, length, IfErr, IfOk};
-ghost use Rattle.bz_io.specs.Desk.{Holds, IsSame};
+ghost use Rattle.std.specs.Prelude.{◌≡◌, ◌≤◌, length, IfErr, IfOk, OnOk};
+ghost use Rattle.bz_io.specs.Desk.{IsAfterLoads, IsSame};
 ghost use Rattle.bz_io.specs.Told.{WhereTold};
 ghost use Rattle.bz_model.specs.Splits.{IsSplit};
 ghost use Rattle.bz_model.specs.Strict.{HasItsColumns, IsPartition};
-ghost use Rattle.bz_top.specs.Claims.{CountsFiles, IsCause, limit_of};
+ghost use Rattle.bz_top.specs.Claims.{CountsFiles, IsCause, limit_of, load_of};
 ghost use Rattle.bz_top.specs.Ends.{name_of};
-ghost use Rattle.bz_top.specs.Loads.{Accepted, IsEarly, Modelled, Parted, RefusesFile, Splits};
+ghost use Rattle.bz_top.specs.Loads.{Accepted, AnswersFile, IsEarly, Modelled, Parted, SinceFirst, Splits};
 
 use crate::job::Job;
 use crate::status::{File, Refusal};
@@ -47,10 +47,9 @@ pub(crate) fn load_file<D: Desk>(
     file: File,
     desk: &mut D,
 ) -> Result<Vec<u8>, Refusal>
-    ensures whole { IfOk result (λ bytes. Holds (D.held desk.old) (name_of job.now file) bytes.items) }
     ensures within { IfOk result (λ bytes. length bytes.items ≤ limit_of file) }
-    ensures refused { IfErr result (RefusesFile (D.held desk.old) job.now file) }
-    ensures kept { WhereTold IsSame (D.held desk.old) (D.held desk.new) }
+    ensures answer { SinceFirst (load_of file) (D.told desk.old) (λ told. AnswersFile told job.now file result) }
+    ensures kept { WhereTold (IsAfterLoads 1) (D.told desk.old) (D.told desk.new) }
     ensures count { CountsFiles result (D.faults desk.old) (D.faults desk.new) }
 {
     match desk.load(alloc, file_name(job, file), limit(file)) {
@@ -63,13 +62,13 @@ pub(crate) fn load_file<D: Desk>(
 
 /// The job's model.
 pub(crate) fn load_model<D: Desk>(alloc: Global, job: &Job, desk: &mut D) -> Result<Model, Refusal>
-    ensures reads { IfOk result (Modelled (D.held desk.old) job.now) }
+    ensures reads { IfOk result (Modelled (D.told desk.old) job.now) }
     ensures columns { IfOk result HasItsColumns }
     ensures few { IfOk result (λ m. length m.columns ≤ 2048) }
     ensures few_rows { IfOk result (λ m. length m.rows ≤ 2048) }
-    ensures cause { IfErr result (IsCause (D.held desk.old) job.now) }
+    ensures cause { IfErr result (IsCause (D.told desk.old) job.now) }
     ensures early { IfErr result IsEarly }
-    ensures kept { WhereTold IsSame (D.held desk.old) (D.held desk.new) }
+    ensures kept { WhereTold (IsAfterLoads 1) (D.told desk.old) (D.told desk.new) }
     ensures count { CountsFiles result (D.faults desk.old) (D.faults desk.new) }
 {
     let text = load_file(alloc, job, File::Model, desk)?;
@@ -87,12 +86,12 @@ pub(crate) fn load_part<D: Desk>(
     desk: &mut D,
     model: &Model,
 ) -> Result<Items<u32>, Refusal>
-    requires { Modelled (D.held desk.old) job.now model.now }
-    ensures reads { IfOk result (λ part. Parted (D.held desk.old) job.now (record { model = model.now; part = part })) }
+    ensures reads { SinceFirst 1 (D.told desk.old) (λ told. Modelled told job.now model.now
+        → IfOk result (λ part. Parted told job.now (record { model = model.now; part = part }))) }
+    ensures cause { SinceFirst 1 (D.told desk.old) (λ told. Modelled told job.now model.now → IfErr result (IsCause told job.now)) }
     ensures partition { IfOk result (IsPartition model.now) }
-    ensures cause { IfErr result (IsCause (D.held desk.old) job.now) }
     ensures early { IfErr result IsEarly }
-    ensures kept { WhereTold IsSame (D.held desk.old) (D.held desk.new) }
+    ensures kept { WhereTold (IsAfterLoads 1) (D.told desk.old) (D.told desk.new) }
     ensures count { CountsFiles result (D.faults desk.old) (D.faults desk.new) }
 {
     let text = load_file(alloc, job, File::Part, desk)?;
@@ -122,12 +121,13 @@ pub(crate) fn split_of(alloc: Global, model: Model, part: Items<u32>) -> Result<
 
 /// The split of the job's model by its partition.
 pub(crate) fn load_split<D: Desk>(alloc: Global, job: &Job, desk: &mut D) -> Result<Split, Refusal>
-    ensures accepted { IfOk result (Accepted (D.held desk.old) job.now) }
+    ensures accepted { IfOk result (Accepted (D.told desk.old) job.now) }
     ensures split { IfOk result IsSplit }
     ensures few_rows { IfOk result (λ s. length s.model.rows ≤ 2048) }
-    ensures cause { IfErr result (IsCause (D.held desk.old) job.now) }
+    ensures cause { IfErr result (IsCause (D.told desk.old) job.now) }
     ensures early { IfErr result IsEarly }
-    ensures kept { WhereTold IsSame (D.held desk.old) (D.held desk.new) }
+    ensures loads { OnOk result (WhereTold (IsAfterLoads 2) (D.told desk.old) (D.told desk.new)) }
+    ensures kept { WhereTold IsSame (D.told desk.old) (D.told desk.new) }
     ensures count { CountsFiles result (D.faults desk.old) (D.faults desk.new) }
 {
     let model = load_model(alloc, job, desk)?;

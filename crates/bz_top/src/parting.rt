@@ -21,12 +21,12 @@ pub(crate) fn split_files<D: Desk>(
     desk: &mut D,
 ) -> Result<(Split, Vec<u32>), Refusal>
     requires { HasNoCert job.now }
-    ensures shown { IfOk result (λ r. ShownParts (D.held desk.old) job.now r.0) }
+    ensures shown { IfOk result (λ r. ShownParts (D.told desk.old) job.now r.0) }
     ensures split { IfOk result (λ r. IsSplit r.0) }
     ensures rows { IfOk result (λ r. AreRowCounts r.0 r.1.items) }
-    ensures cause { IfErr result (IsCause (D.held desk.old) job.now) }
-    ensures decomposed { EndsDecomposed (D.held desk.old) job.now result }
-    ensures kept { WhereTold IsSame (D.held desk.old) (D.held desk.new) }
+    ensures cause { IfErr result (IsCause (D.told desk.old) job.now) }
+    ensures decomposed { EndsDecomposed (D.told desk.old) job.now result }
+    ensures kept { WhereTold IsSame (D.told desk.old) (D.told desk.new) }
     ensures count { CountsFiles result (D.faults desk.old) (D.faults desk.new) }
 {
     let model = load_model(alloc, job, desk)?;

@@ -46,10 +46,10 @@ fn refuse<O: Sink>(out: &mut O, job: &Job, refusal: &Refusal) -> Status
 fn outcome<D: Desk>(alloc: Global, job: &Job, desk: &mut D) -> Result<Said, Refusal>
     ensures of_job { IfOk result (IsOfJob job.now) }
     ensures whole { IfOk result IsWhole }
-    ensures shown { IfOk result (Shown (D.held desk.old) job.now) }
-    ensures cause { IfErr result (IsCause (D.held desk.old) job.now) }
-    ensures decomposed { EndsDecomposed (D.held desk.old) job.now result }
-    ensures kept { WhereTold IsSame (D.held desk.old) (D.held desk.new) }
+    ensures shown { IfOk result (Shown (D.told desk.old) job.now) }
+    ensures cause { IfErr result (IsCause (D.told desk.old) job.now) }
+    ensures decomposed { EndsDecomposed (D.told desk.old) job.now result }
+    ensures kept { WhereTold IsSame (D.told desk.old) (D.told desk.new) }
     ensures count { CountsFiles result (D.faults desk.old) (D.faults desk.new) }
 {
     match job {
@@ -77,25 +77,27 @@ fn put_said<O: Sink>(out: &mut O, said: &Said) -> Result<(), PutFailed>
 pub fn do_alone<D: Desk, O: Sink>(alloc: Global, job: &Job, desk: &mut D, out: &mut O) -> Status
     // What is printed is what the files show. What a certificate is said to show is true of the model: its point is optimal
     // and the printed number is its objective, or no point is feasible, or for each number some feasible point is better.
-    ensures done { result ≡ Status.Done → ShowsOf (D.held desk.old) job.now (O.taken out.old) (O.taken out.new) }
+    ensures done { result ≡ Status.Done → ShowsOf (D.told desk.old) job.now (O.taken out.old) (O.taken out.new) }
 
     // Every other status is that of a refusal with its cause and its text, or a text could not be put whole.
     ensures never { (result ≢ Status.Usage) × (result ≢ Status.Unresolved) }
-    ensures refused { IsRefused result → RefusesJob (D.held desk.old) job.now result (O.taken out.old) (O.taken out.new) }
-    ensures written { result ≡ Status.Write → BreaksOff (D.held desk.old) job.now (O.taken out.old) (O.taken out.new) }
+    ensures refused { IsRefused result → RefusesJob (D.told desk.old) job.now result (O.taken out.old) (O.taken out.new) }
+    ensures written { result ≡ Status.Write → BreaksOff (D.told desk.old) job.now (O.taken out.old) (O.taken out.new) }
 
-    // The status that the files settle comes, unless a read or a write failed or there is no memory.
-    ensures settled { EndsSettled (D.held desk.old) job.now result }
+    // The status that the desk settles comes, unless a write failed or there is no memory: so that of a file that can't be
+    // read comes exactly where its load fails.
+    ensures settled { EndsSettled (D.told desk.old) job.now result }
 
-    // A count of faults rises where the status says so, and else stays; the desk's never falls.
+    // A count of faults rises by one where the status says so, and nothing is loaded or put after that fault; else it stays.
+    // The desk's never falls.
     ensures read { result ≡ Status.Read → HasRisen (D.faults desk.old) (D.faults desk.new) }
-    ensures read_well { result ≢ Status.Read → result ≢ Status.Write → D.faults desk.new ≡ D.faults desk.old }
-    ensures no_fall { D.faults desk.old ≤ D.faults desk.new }
+    ensures read_well { result ≢ Status.Read → result ≢ Status.Write → (D.faults desk.new).number ≡ (D.faults desk.old).number }
+    ensures no_fall { (D.faults desk.old).number ≤ (D.faults desk.new).number }
     ensures write { result ≡ Status.Write → HasRisen (O.faults out.old) (O.faults out.new) }
-    ensures written_well { result ≢ Status.Write → O.faults out.new ≡ O.faults out.old }
+    ensures written_well { result ≢ Status.Write → (O.faults out.new).number ≡ (O.faults out.old).number }
 
     // No name is changed.
-    ensures kept { WhereTold IsSame (D.held desk.old) (D.held desk.new) }
+    ensures kept { WhereTold IsSame (D.told desk.old) (D.told desk.new) }
 {
     match outcome(alloc, job, desk) {
         Ok(said) => status_after(put_said(out, &said), Status::Done),
@@ -109,7 +111,7 @@ pub fn run<D: Desk, O: Sink>(alloc: Global, words: &[String], desk: &mut D, out:
     // What is printed is what the files of the job show that the words ask for. What a certificate is said to show is true
     // of the model: its point is optimal and the printed number is its objective, or no point is feasible, or for each
     // number some feasible point is better.
-    ensures done { result ≡ Status.Done → ShowsAsked (map string_bytes words.now) (D.held desk.old) (O.taken out.old) (O.taken out.new) }
+    ensures done { result ≡ Status.Done → ShowsAsked (map string_bytes words.now) (D.told desk.old) (O.taken out.old) (O.taken out.new) }
 
     // Words without a job are refused, and no others. The desk then has no fault; as any load may have one, none is made.
     ensures usage { result ≡ Status.Usage → IsJobless (map string_bytes words.now) }
@@ -119,23 +121,25 @@ pub fn run<D: Desk, O: Sink>(alloc: Global, words: &[String], desk: &mut D, out:
 
     // Every other status is that of a refusal with its cause and its text, or a text could not be put whole.
     ensures never { result ≢ Status.Unresolved }
-    ensures refused { IsRefused result → RefusesAsked (map string_bytes words.now) (D.held desk.old) result (O.taken out.old) (O.taken out.new) }
+    ensures refused { IsRefused result → RefusesAsked (map string_bytes words.now) (D.told desk.old) result (O.taken out.old) (O.taken out.new) }
     ensures written { result ≡ Status.Write →
-        BreaksOffAsked (map string_bytes words.now) (D.held desk.old) (O.taken out.old) (O.taken out.new)
+        BreaksOffAsked (map string_bytes words.now) (D.told desk.old) (O.taken out.old) (O.taken out.new)
         ⊎ BreaksOffUsage (map string_bytes words.now) (O.taken out.old) (O.taken out.new) }
 
-    // The status that the files settle comes, unless a read or a write failed or there is no memory.
-    ensures settled { EndsSettledAsked (map string_bytes words.now) (D.held desk.old) result }
+    // The status that the desk settles comes, unless a write failed or there is no memory: so that of a file that can't be
+    // read comes exactly where its load fails.
+    ensures settled { EndsSettledAsked (map string_bytes words.now) (D.told desk.old) result }
 
-    // A count of faults rises where the status says so, and else stays; the desk's never falls.
+    // A count of faults rises by one where the status says so, and nothing is loaded or put after that fault; else it stays.
+    // The desk's never falls.
     ensures read { result ≡ Status.Read → HasRisen (D.faults desk.old) (D.faults desk.new) }
-    ensures read_well { result ≢ Status.Read → result ≢ Status.Write → D.faults desk.new ≡ D.faults desk.old }
-    ensures no_fall { D.faults desk.old ≤ D.faults desk.new }
+    ensures read_well { result ≢ Status.Read → result ≢ Status.Write → (D.faults desk.new).number ≡ (D.faults desk.old).number }
+    ensures no_fall { (D.faults desk.old).number ≤ (D.faults desk.new).number }
     ensures write { result ≡ Status.Write → HasRisen (O.faults out.old) (O.faults out.new) }
-    ensures written_well { result ≢ Status.Write → O.faults out.new ≡ O.faults out.old }
+    ensures written_well { result ≢ Status.Write → (O.faults out.new).number ≡ (O.faults out.old).number }
 
     // No name is changed.
-    ensures kept { WhereTold IsSame (D.held desk.old) (D.held desk.new) }
+    ensures kept { WhereTold IsSame (D.told desk.old) (D.told desk.new) }
 {
     match read_words(alloc, words) {
         Ok(job) => do_alone(alloc, &job, desk, out),

@@ -13,7 +13,7 @@ const TWO_LEAVES: &str =
     "bzcert 1\nverdict optimal\nmaster 1 1\neta 0\nblock 1 1 0\nvalue 2\ncuts 2\ncut 1 1 0 1 0 1 1 3\ncut 1 1 -3 1 1 0 -6 1 0 3\nsplit 0 0 1\nleaf 1 3 2 0 4 3 1\nleaf 1 2 2 1 2 2 1\nend\n";
 
 /// Texts in the place of others in that certificate, how the check ends, and what is printed.
-const CHANGES: [(&str, &str, Status, &str); 17] = [
+const CHANGES: [(&str, &str, Status, &str); 21] = [
     // the text as it is
     (
         "bzcert 1\n",
@@ -101,6 +101,33 @@ const CHANGES: [(&str, &str, Status, &str); 17] = [
         "eta 0\nblock 1 1 1\nvalue 2",
         Status::Cert,
         "certificate: Cost 1\n",
+    ),
+    // below 0 in the block's inequality 1, -y <= 0
+    (
+        "block 1 1 0",
+        "block 1 1 -1",
+        Status::Cert,
+        "certificate: Point 1 1\n",
+    ),
+    // the cut's sum has -2 at y, and -3 is needed
+    (
+        "cut 1 1 0 1 0 1 1 3",
+        "cut 1 1 0 1 0 1 1 2",
+        Status::Cert,
+        "certificate: Cut 0\n",
+    ),
+    // lists that say they are as long as a list can be
+    (
+        "leaf 1 3 2 0 4 3 1",
+        "leaf 1 3 4294967295 0 1",
+        Status::Cert,
+        "certificate line 11: 3 Line\n",
+    ),
+    (
+        "cut 1 1 0 1 0 1 1 3",
+        "cut 1 1 0 1 4294967295 0 1",
+        Status::Cert,
+        "certificate line 8: 3 Line\n",
     ),
     // a factor of a block that makes a product wide
     (

@@ -7,4 +7,4 @@ use Rattle.bz_top.proofs.pieces.put_pieces.Given as goal
 abbrev pub invariant-loop-piece : goal.invariant-loop-piece
 invariant-loop-piece g l =
     Finishes (pieces_text (drop l.piece-index l.pieces)) (pieces_text l.pieces) (g.O.Sink.taken l.initial.out) (g.O.Sink.taken l.out)
-    × (g.O.Sink.faults l.out ≡ g.O.Sink.faults l.initial.out)
+    × ((g.O.Sink.faults l.out).number ≡ (g.O.Sink.faults l.initial.out).number)

@@ -15,7 +15,7 @@ returns-in-Ok-clause-written g c = λ e.
 
 pub returns-in-Ok-clause-settled : goal.returns-in-Ok-clause-settled
 returns-in-Ok-clause-settled g c =
-    subst (λ (s : Status). EndsSettled (g.D.Desk.held c.args.desk.now) c.args.job.now s) (sym c.status_after.ensures)
+    subst (λ (s : Status). EndsSettled (g.D.Desk.told c.args.desk.now) c.args.job.now s) (sym c.status_after.ensures)
     (said_settled c.put_said.result _ c.args.job.now c.in-Ok.said c.in-Ok.ensures.of_job c.in-Ok.ensures.decomposed c.in-Ok.ensures.shown)
 
 pub returns-in-Err-clause-written : goal.returns-in-Err-clause-written
