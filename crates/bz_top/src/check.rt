@@ -60,8 +60,7 @@ fn holding_of(split: &Split, certificate: &Certificate) -> Holding
 
 /// What the certificate says, where it passes and fits.
 fn judge(alloc: Global, split: &Split, certificate: &Certificate) -> Result<Holding, Refusal>
-    requires shaped { IsShaped certificate.now }
-    requires few_rows { length split.now.model.rows ≤ 2048 }
+    requires { IsShaped certificate.now }
     ensures passes { IfOk result (λ _. Passes split.now.model split.now.part certificate.now) }
     ensures fits { IfOk result (λ _. Fits split.now.model split.now.part certificate.now) }
     ensures says { IfOk result (Says split.now certificate.now) }

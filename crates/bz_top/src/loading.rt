@@ -2,6 +2,7 @@
 ghost use Rattle.std.specs.Prelude.{◌≡◌, ◌≤◌, length, IfErr, IfOk, OnOk};
 ghost use Rattle.bz_io.specs.Desk.{IsAfterLoads, IsSame};
 ghost use Rattle.bz_io.specs.Told.{WhereTold};
+ghost use Rattle.bz_model.specs.Limits.{IsWithinLimits};
 ghost use Rattle.bz_model.specs.Splits.{IsSplit};
 ghost use Rattle.bz_model.specs.Strict.{HasItsColumns, IsPartition};
 ghost use Rattle.bz_top.specs.Claims.{CountsFiles, IsCause, limit_of, load_of};
@@ -64,8 +65,7 @@ pub(crate) fn load_file<D: Desk>(
 pub(crate) fn load_model<D: Desk>(alloc: Global, job: &Job, desk: &mut D) -> Result<Model, Refusal>
     ensures reads { IfOk result (Modelled (D.told desk.old) job.now) }
     ensures columns { IfOk result HasItsColumns }
-    ensures few { IfOk result (λ m. length m.columns ≤ 2048) }
-    ensures few_rows { IfOk result (λ m. length m.rows ≤ 2048) }
+    ensures limits { IfOk result IsWithinLimits }
     ensures cause { IfErr result (IsCause (D.told desk.old) job.now) }
     ensures early { IfErr result IsEarly }
     ensures kept { WhereTold (IsAfterLoads 1) (D.told desk.old) (D.told desk.new) }
@@ -106,8 +106,7 @@ pub(crate) fn load_part<D: Desk>(
 pub(crate) fn split_of(alloc: Global, model: Model, part: Items<u32>) -> Result<Split, Refusal>
     requires columns { HasItsColumns model }
     requires partition { IsPartition model part }
-    requires few { length model.columns ≤ 2048 }
-    requires few_rows { length model.rows ≤ 2048 }
+    requires limits { IsWithinLimits model }
     ensures { Splits (record { model = model; part = part }) result }
 {
     match split(alloc, model, part) {
@@ -123,7 +122,6 @@ pub(crate) fn split_of(alloc: Global, model: Model, part: Items<u32>) -> Result<
 pub(crate) fn load_split<D: Desk>(alloc: Global, job: &Job, desk: &mut D) -> Result<Split, Refusal>
     ensures accepted { IfOk result (Accepted (D.told desk.old) job.now) }
     ensures split { IfOk result IsSplit }
-    ensures few_rows { IfOk result (λ s. length s.model.rows ≤ 2048) }
     ensures cause { IfErr result (IsCause (D.told desk.old) job.now) }
     ensures early { IfErr result IsEarly }
     ensures loads { OnOk result (WhereTold (IsAfterLoads 2) (D.told desk.old) (D.told desk.new)) }

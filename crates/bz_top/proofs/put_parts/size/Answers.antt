@@ -10,7 +10,7 @@ overflow_mul-result c =
     let is : c.integers_among.result ≡ length (filter (λ (k : Column). k.integer) c.args.split.now.model.columns) =
     c.integers_among.ensures ∙ ap (λ (xs : List Column). length (filter (λ (k : Column). k.integer) xs)) (c.as_slice.ensures ∙ ap (λ (m : Model). m.columns) c.model.ensures.value) in
     let few = few_kept (λ (k : Column). k.integer) c.args.split.now.model.columns in
-    let all = c.model.ensures.split.few in
+    let all = c.model.ensures.split.limits.columns in
     record { fits = omega (arith, is, few, all) }
 
 pub overflow_add-result : goal.overflow_add-result
