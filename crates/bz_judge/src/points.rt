@@ -16,8 +16,8 @@ use crate::faults::{BLOCK_DENOMINATOR, BLOCK_SUMS, CheckFault, MASTER_SUMS, wide
 use crate::integers::judge_integers;
 use crate::numbers::{sum_at, sum_of};
 use bz_cut::{judge_at_most, judge_product};
-use bz_num::row_sum;
 use bz_model::{BlockPart, Ineq, Master, Parts, Split};
+use bz_num::row_sum;
 use bz_tree::NodeBox;
 
 /// Whether inequality `n` holds at the master's point.

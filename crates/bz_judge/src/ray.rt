@@ -13,7 +13,7 @@ ghost use Rattle.bz_model.specs.PointSums.{row_pairs};
 use crate::faults::{CheckFault, RAY_SUMS, wide_in};
 use crate::numbers::sum_at;
 use bz_cut::judge_fold;
-use bz_model::{inner_number, Column, Model, Row, Split};
+use bz_model::{Column, Model, Row, Split, inner_number};
 use bz_num::{Folding, WideSum};
 
 /// Tests that column `j` stays where it is, if it is an integer.

@@ -1,5 +1,5 @@
 //! The check of a certificate, from the files of a job.
-ghost use Rattle.std.specs.Prelude.{◌≤◌, length, IfErr, IfOk};
+ghost use Rattle.std.specs.Prelude.{IfErr, IfOk};
 ghost use Rattle.bz_cert.specs.Shapes.{IsShaped};
 ghost use Rattle.bz_cert.specs.Fits.{Fits};
 ghost use Rattle.bz_cert.specs.Passing.{Passes};

@@ -33,4 +33,4 @@ returns-in-Err-Fault-clause-cause g c =
     (subst (λ (t : List ℕ). MpsFaultOf t c.in-Err-Fault.fault.line c.in-Err-Fault.fault.kind) c.as_slice.ensures.value is)
 
 pub returns-in-Ok-clause-limits : goal.returns-in-Ok-clause-limits
-returns-in-Ok-clause-limits g c = record { columns = omega (arith, c.in-Ok.ensures.few); rows = omega (arith, c.in-Ok.ensures.few_rows) }
+returns-in-Ok-clause-limits g c = record { columns = omega (arith, c.in-Ok.ensures.few_columns); rows = omega (arith, c.in-Ok.ensures.few_rows) }
