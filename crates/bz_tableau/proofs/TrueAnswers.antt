@@ -10,8 +10,8 @@ use Rattle.bz_algebra.proofs.Ring.{*ℤ_assoc, add_mul, mul_add, mul_left, mul_r
 use Rattle.bz_algebra.proofs.SumLemmas.{upto_same, upto_add, upto_scale, upto_scale_right, upto_rows, upto_le, upto_only, upto_zero}
 use Rattle.bz_tableau.specs.Answers.{AreMultipliersFor, IsLeast, IsEmpty, IsRay}
 use Rattle.bz_tableau.specs.Dense.{entry}
-use Rattle.bz_tableau.specs.Points.{terms, MeetsRows, FallsFreely}
-use Rattle.bz_tableau.specs.Truths.{IsPointOf, cost_at, CostsLeast, HasLeastS, HasNoPoint, along, FallsBelowAll}
+use Rattle.bz_tableau.specs.Points.{terms, cost_at, MeetsRows, FallsFreely}
+use Rattle.bz_tableau.specs.Truths.{IsPointOf, CostsLeast, HasLeastS, HasNoPoint, along, FallsBelowAll}
 use Rattle.bz_tableau.specs.declared.answers.Vals.{Vals}
 
 -- ---- rows times multipliers that aren't negative

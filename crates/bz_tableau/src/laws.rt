@@ -10,7 +10,7 @@ ghost use Rattle.bz_tableau.specs.declared.programs.Lp.{Lp};
 ghost use Rattle.bz_tableau.specs.Laws.{HasRowsOfBasis};
 ghost use Rattle.bz_tableau.specs.Tables.{Table, IsTableauOf};
 
-/// The rows that a tableau shows are the rows of its basis, and the one behind them is the objective row.
+/// The rows that a tableau shows are the rows of its basis, and the one after them is the objective row.
 pub fn tableau_has_rows_of_basis()
     ensures { (relaxed : Bool) (lp : Lp) (t : Table) → IsTableauOf relaxed lp t → HasRowsOfBasis relaxed lp t }
 {}
@@ -55,8 +55,8 @@ pub fn answers_are_given()
 {}
 
 /// Answers are true of all points. A least one is a point and none costs less, so that none of the relaxed program has
-/// a lesser s; an empty program has no point; and from a ray's point all that lies along its direction is points, whose
-/// cost falls below every number.
+/// a lesser s; an empty program has no point; and from a ray's point every step along its direction leads to a
+/// point, and the cost falls below every number.
 pub fn answers_are_true()
     ensures least { (relaxed : Bool) (p : Program) (basis : List ℕ) (z y : Vals) →
         IsLeast relaxed p basis z y → CostsLeast relaxed p (entry z.num) z.den }
