@@ -1,5 +1,5 @@
 -- Where the numbers of a basis's answer go wide: its common denominator, its point, and the direction of a ray.
-use Rattle.std.specs.Prelude.{ℕ, suc, ◌<◌, ◌≡◌, ◌⊎◌, ℤ, pos, ◌*ℤ◌, ◌≤ℤ◌, Bool, false, List, length}
+use Rattle.std.specs.Prelude.{ℕ, suc, ◌<◌, ◌≡◌, ◌⊎◌, ℤ, ◌*ℤ◌, Bool, false, List, length}
 use Rattle.bz_algebra.specs.Numbers.{IsNarrow, IsWide}
 use Rattle.bz_algebra.specs.Tableaus.{Equations, side, Program, IsRow, IsObjectiveRow, rows_of}
 use Rattle.bz_tableau.specs.Answers.{IsBasisList, AreMultipliersFor}
