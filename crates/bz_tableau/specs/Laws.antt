@@ -17,6 +17,9 @@ pub record HasRowsOfBasis (relaxed : Bool) (lp : Lp) (t : Table) : Type 0 where
   -- each row that is shown is the row of its basic column
   pub rows : (i : ℕ) → i < length lp.rows → IsRow (rows_of relaxed (program_of lp)) (place t.basis) i (shown t i)
   -- the row after them is the objective row: its factor is d, and its numbers in the slacks are y
-  pub objective : IsObjectiveRow relaxed (program_of lp) (place t.basis) (number t.rows (length lp.rows) (factor relaxed (program_of lp))) (λ i. number t.rows (length lp.rows) ((lp_equations relaxed lp).slack + i))
+  pub objective : IsObjectiveRow relaxed (program_of lp) (place t.basis)
+      (number t.rows (length lp.rows) (factor relaxed (program_of lp)))
+      (λ i. number t.rows (length lp.rows) ((lp_equations relaxed lp).slack + i))
   -- with the factor column the rows are the tableau of the equations
-  pub tableau : IsTableau (lp_equations relaxed lp) (with_factor relaxed (program_of lp) (place t.basis)) (number t.rows)
+  pub tableau : IsTableau (lp_equations relaxed lp)
+      (with_factor relaxed (program_of lp) (place t.basis)) (number t.rows)

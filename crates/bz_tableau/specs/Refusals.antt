@@ -18,7 +18,8 @@ pub record NamesPivot (t : Table) (r e : ℕ) (relaxed : Bool) (basis goal : Lis
 
 abbrev pub IsWidePivot : Table → ℕ → ℕ → WideAt → Type 0
 IsWidePivot t r e (Build row) = ⊥
-IsWidePivot t r e (Pivot relaxed basis goal row pivot_row column) = NamesPivot t r e relaxed basis goal row pivot_row column
+IsWidePivot t r e (Pivot relaxed basis goal row pivot_row column) =
+    NamesPivot t r e relaxed basis goal row pivot_row column
 IsWidePivot t r e (Den relaxed basis at) = ⊥
 IsWidePivot t r e (Fold relaxed basis column list at) = ⊥
 
