@@ -3,7 +3,7 @@ use Rattle.std.specs.Prelude.{ℕ, zero, suc, ◌-◌, ◌<◌, ◌≡◌, ◌�
 use Rattle.std.specs.Int.{◌∣◌}
 use Rattle.std.proofs.Common.{refl, ap, sym, subst, ◌∙◌, arith, inl, inr}
 use Rattle.std.proofs.lemmas.Int.{ints}
-use Rattle.bz_algebra.specs.Tableaus.{Equations, side, Program, IsRow, IsTableau, IsBasis, IsObjectiveRow, rows_of, equations_of, with_factor}
+use Rattle.bz_algebra.specs.Tableaus.{Equations, side, Program, IsTableau, IsBasis, IsObjectiveRow, rows_of, equations_of, with_factor}
 use Rattle.bz_algebra.proofs.Bounded.{by_lt, below_suc, all_or_some, zeros_or_not}
 use Rattle.bz_algebra.proofs.Divisors.{PrimitivePart, primitive_part}
 use Rattle.bz_algebra.proofs.Objectives.{basis_with_objective}
