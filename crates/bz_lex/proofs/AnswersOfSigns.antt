@@ -3,7 +3,7 @@ use Rattle.std.specs.Prelude.{ℕ, zero, suc, ◌-◌, ◌<◌, ◌≡◌, ◌�
 use Rattle.std.specs.Int.{◌∣◌}
 use Rattle.std.proofs.Common.{refl, ap, sym, subst, ◌∙◌, arith, inl, inr}
 use Rattle.std.proofs.lemmas.Int.{ints}
-use Rattle.bz_algebra.specs.Tableaus.{Equations, side, Program, IsRow, IsTableau, IsBasis, IsObjectiveRow, rows_of, equations_of, with_factor}
+use Rattle.bz_algebra.specs.Tableaus.{Equations, side, Program, IsTableau, IsBasis, IsObjectiveRow, rows_of, equations_of, with_factor}
 use Rattle.bz_algebra.proofs.Bounded.{by_lt, below_suc, all_or_some, zeros_or_not}
 use Rattle.bz_algebra.proofs.Divisors.{PrimitivePart, primitive_part}
 use Rattle.bz_algebra.proofs.Objectives.{basis_with_objective}
@@ -18,16 +18,12 @@ use Rattle.bz_tableau.specs.declared.answers.Answer.TheVariants.{Least, Empty, R
 use Rattle.bz_tableau.specs.declared.answers.Vals.{Vals}
 use Rattle.bz_tableau.specs.declared.programs.Lp.{Lp}
 use Rattle.bz_tableau.specs.Answers.{IsBasisList, IsLeast, IsRay, IsAnswer, HasAnswer, basis_of}
-use Rattle.bz_tableau.specs.Points.{IsPoint, MeetsRows, IsDirection, FallsFreely, MakesRay, IsRayColumn}
+use Rattle.bz_tableau.specs.Points.{IsPoint, HasNoNegativeSide, MeetsRows, IsDirection, FallsFreely, MakesRay, IsRayColumn}
 use Rattle.bz_tableau.specs.WidePlaces.{HasLeastSigns, HasAnswerSigns}
 use Rattle.bz_tableau.proofs.OneObjective.{objective_same}
 use Rattle.bz_lex.proofs.PointSigns.{point_meets, point_signs, multipliers_by_signs, signs_by_multipliers, same_cost}
 use Rattle.bz_lex.proofs.PointsExist.{listed, length_listed, entry_listed, denominator_exists, point_exists}
 use Rattle.bz_lex.proofs.RaySigns.{AreRaySigns, direction_signs, signs_make_ray, shorter_direction, shorter_falls}
-
--- no right side of the basis is negative
-abbrev pub HasRightSides : Bool → Program → (ℕ → ℕ) → Type 0
-HasRightSides relaxed p basis = (i : ℕ) (v : ℕ → ℤ) → i < p.rows → IsRow (rows_of relaxed p) basis i v → (pos 0) ≤ℤ (v (side (rows_of relaxed p)))
 
 -- ---- from signs to answers
 module _ (relaxed : Bool) (p : Program) (basis : List ℕ) (is_basis : IsBasisList relaxed p basis) where
@@ -49,7 +45,7 @@ module _ (relaxed : Bool) (p : Program) (basis : List ℕ) (is_basis : IsBasisLi
     pub point : IsPoint few (place basis) (entry z.num) z.den
     pub meets : MeetsRows few (entry z.num) z.den
 
-  point_for : HasRightSides relaxed p (place basis) → (z : Vals) × IsPointFor z
+  point_for : HasNoNegativeSide relaxed p (place basis) → (z : Vals) × IsPointFor z
   point_for h =
       let den = denominator_exists few (place basis) rows.0 rows.1 in
       let z = point_exists few (place basis) rows.0 den.0 rows.1 den.1 in (
@@ -61,7 +57,7 @@ module _ (relaxed : Bool) (p : Program) (basis : List ℕ) (is_basis : IsBasisLi
         },
       )
 
-  least_for : HasRightSides relaxed p (place basis) → HasLeastSigns relaxed p (place basis) → (z y : Vals) × IsLeast relaxed p basis z y
+  least_for : HasNoNegativeSide relaxed p (place basis) → HasLeastSigns relaxed p (place basis) → (z y : Vals) × IsLeast relaxed p basis z y
   least_for h signs =
       let z = point_for h in
       let o = objective in (
@@ -130,7 +126,7 @@ module _ (p : Program) (basis : ℕ → ℕ) (column : ℕ) (d : ℕ → ℤ) (d
     },
   )
 
-ray_for : (p : Program) (basis : List ℕ) (column : ℕ) → IsBasisList false p basis → HasRightSides false p (place basis) → MakesRay p (place basis) column → (z : Vals) × (d : List ℤ) × IsRay p basis column z d
+ray_for : (p : Program) (basis : List ℕ) (column : ℕ) → IsBasisList false p basis → HasNoNegativeSide false p (place basis) → MakesRay p (place basis) column → (z : Vals) × (d : List ℤ) × IsRay p basis column z d
 ray_for p basis column b h makes =
     let z = point_for false p basis b h in
     let d = primitive_move p (place basis) column makes.0 makes.1 makes.2 in (
@@ -195,14 +191,14 @@ answer_of_signs relaxed lp basis h = elim h.signs [
       record { answer = Least basis a.0 a.1; is_answer = record { basis_is = refl; answer = a.2; first_column = tt } }
   | inr s ↦
       let b = subst (λ (r : Bool). IsBasisList r (program_of lp) basis) s.1.unrelaxed h.is_basis in
-      let r = subst (λ (r : Bool). HasRightSides r (program_of lp) (place basis)) s.1.unrelaxed h.right_sides in
+      let r = subst (λ (r : Bool). HasNoNegativeSide r (program_of lp) (place basis)) s.1.unrelaxed h.right_sides in
       let f = first_column (program_of lp) (place basis) b.is_basis s.0 s.1.makes in
       let a = ray_for (program_of lp) basis f.0 b r f.1.makes in
       record { answer = Ray basis f.0 a.0 a.1; is_answer = record { basis_is = refl; answer = (s.1.unrelaxed, a.2); first_column = f.1 } }
 ]
 
 -- ---- from answers to signs
-right_sides_of : (relaxed : Bool) (p : Program) (basis : List ℕ) (z : ℕ → ℤ) (den : ℤ) → IsBasisList relaxed p basis → IsPoint (rows_of relaxed p) (place basis) z den → MeetsRows (rows_of relaxed p) z den → HasRightSides relaxed p (place basis)
+right_sides_of : (relaxed : Bool) (p : Program) (basis : List ℕ) (z : ℕ → ℤ) (den : ℤ) → IsBasisList relaxed p basis → IsPoint (rows_of relaxed p) (place basis) z den → MeetsRows (rows_of relaxed p) z den → HasNoNegativeSide relaxed p (place basis)
 right_sides_of relaxed p basis z den b point meets i v l r =
     let t = basis_tableau (rows_of relaxed p) (place basis) b.is_basis in
     subst (λ (x : ℤ). (pos 0) ≤ℤ x) (row_unique (rows_of relaxed p) (place basis) t.0 v i t.1 l r (side (rows_of relaxed p)) (omega arith)) (point_signs (rows_of relaxed p) (place basis) t.0 z den t.1 point meets i l)

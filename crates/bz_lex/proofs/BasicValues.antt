@@ -8,7 +8,6 @@ use Rattle.bz_algebra.specs.Numbers.{IsNarrow}
 use Rattle.bz_tableau.specs.Dense.{entry}
 use Rattle.bz_tableau.specs.Laws.{place}
 use Rattle.bz_tableau.specs.Tables.{Table, shown}
-use Rattle.bz_tableau.specs.WidePlaces.{at_number}
 use Rattle.bz_lex.specs.Shown.{IsOrderOf, own_entry, IsOver, IsWideOver, AreValuesTo, IsFirstWideOver}
 use Rattle.bz_algebra.proofs.Ring.{cancel_right, positive-ne}
 use Rattle.bz_lex.proofs.LeastMultiples.{wide_if}
@@ -19,22 +18,22 @@ over_outcome den entry number times (Some x) e h = record { times = times; times
 
 -- the column at a number of the order
 pub column_at : Table → List ℕ → ℕ → ℕ
-column_at t order k = place t.basis (at_number order k)
+column_at t order k = place t.basis (place order k)
 
-pub values_more : (n : ℕ) (t : Table) (order : List ℕ) (den : ℤ) (column : ℕ) (values : List ℤ) (x : ℤ) → IsOrderOf t order → AreValuesTo n t order den column values → n < length order → IsOver den (own_entry t order n) (shown t (at_number order n) column) x
-    → AreValuesTo (n + 1) t order den column (set values (place t.basis (at_number order n)) x)
+pub values_more : (n : ℕ) (t : Table) (order : List ℕ) (den : ℤ) (column : ℕ) (values : List ℤ) (x : ℤ) → IsOrderOf t order → AreValuesTo n t order den column values → n < length order → IsOver den (own_entry t order n) (shown t (place order n) column) x
+    → AreValuesTo (n + 1) t order den column (set values (place t.basis (place order n)) x)
 values_more n t order den column values x o h inside over = record {
   width = length-set values here x ∙ h.width;
   basic = λ k b. elim (cases_eq k n) [
-    | inl g ↦ subst (λ (m : ℕ). IsOver den (own_entry t order m) (shown t (at_number order m) column) (entry (set values here x) (place t.basis (at_number order m)))) (sym g)
-        (subst (λ (y : ℤ). IsOver den (own_entry t order n) (shown t (at_number order n) column) y) (sym (get_or-set_same values here x (pos 0) (omega (arith, h.width, o.before_slacks n inside)))) over)
-    | inr g ↦ subst (λ (y : ℤ). IsOver den (own_entry t order k) (shown t (at_number order k) column) y) (sym (get_or-set_other values here (place t.basis (at_number order k)) x (pos 0) (λ e. g (o.different k n (omega arith) inside e)))) (h.basic k (omega arith))
+    | inl g ↦ subst (λ (m : ℕ). IsOver den (own_entry t order m) (shown t (place order m) column) (entry (set values here x) (place t.basis (place order m)))) (sym g)
+        (subst (λ (y : ℤ). IsOver den (own_entry t order n) (shown t (place order n) column) y) (sym (get_or-set_same values here x (pos 0) (omega (arith, h.width, o.before_slacks n inside)))) over)
+    | inr g ↦ subst (λ (y : ℤ). IsOver den (own_entry t order k) (shown t (place order k) column) y) (sym (get_or-set_other values here (place t.basis (place order k)) x (pos 0) (λ e. g (o.different k n (omega arith) inside e)))) (h.basic k (omega arith))
   ];
   other = λ j f. get_or-set_other values here j x (pos 0) (λ e. f n (omega arith) (sym e)) ∙ h.other j (λ k b. f k (omega arith));
 }
   where
     here : ℕ
-    here = place t.basis (at_number order n)
+    here = place t.basis (place order n)
 
 pub values_all : (n : ℕ) (t : Table) (order : List ℕ) (den : ℤ) (column : ℕ) (values : List ℤ) → AreValuesTo n t order den column values → n ≤ length order → length order ≤ n → AreValuesTo (length order) t order den column values
 values_all n t order den column values h l m = let e : n ≡ length order = omega arith in subst (λ (k : ℕ). AreValuesTo k t order den column values) e h
@@ -47,9 +46,9 @@ not_both den entry number value p h w = omega (arith, narrow, w.wide)
     narrow = subst (λ (y : ℤ). IsNarrow y) (h.value_is ∙ ap (λ (q : ℤ). number *ℤ q) (cancel_right h.times w.times entry (positive-ne entry p) (h.times_is ∙ sym w.times_is))) h.narrow
 
 -- the entry of a place divides the denominator, and no place before has a wide value
-pub first_wide_over : (n : ℕ) (t : Table) (order : List ℕ) (den : ℤ) (column : ℕ) (values : List ℤ) → IsOrderOf t order → AreValuesTo n t order den column values → n < length order → IsWideOver den (own_entry t order n) (shown t (at_number order n) column) → IsFirstWideOver (length order) t order den column n
+pub first_wide_over : (n : ℕ) (t : Table) (order : List ℕ) (den : ℤ) (column : ℕ) (values : List ℤ) → IsOrderOf t order → AreValuesTo n t order den column values → n < length order → IsWideOver den (own_entry t order n) (shown t (place order n) column) → IsFirstWideOver (length order) t order den column n
 first_wide_over n t order den column values o h inside wide = record {
   inside = inside;
   here = wide;
-  first = λ l b w. not_both den (own_entry t order l) (shown t (at_number order l) column) _ (o.positive l (omega arith)) (h.basic l b) w;
+  first = λ l b w. not_both den (own_entry t order l) (shown t (place order l) column) _ (o.positive l (omega arith)) (h.basic l b) w;
 }

@@ -11,7 +11,6 @@ use Rattle.bz_num.proofs.Quotients.{zero_from_size}
 use Rattle.bz_tableau.specs.Dense.{entry, IsDivisorOf, IsDivided}
 use Rattle.bz_tableau.specs.Laws.{place}
 use Rattle.bz_tableau.specs.Tables.{Table, shown, factor_column}
-use Rattle.bz_tableau.specs.WidePlaces.{at_number}
 use Rattle.bz_lex.specs.Shown.{IsOrderOf, IsShownBasis, IsShownOrder, own_entry, IsOver, IsWideOver, AreValuesTo, IsFirstWideOver, IsNarrowLeast, IsPrimitivePart, IsShownDirection, IsShownMove, GoesWideAtRay}
 use Rattle.bz_lex.proofs.BasicValues.{not_both}
 
@@ -30,22 +29,22 @@ order_of t order h b = record {
   inside = h.inside;
   before_slacks = h.before_slacks;
   different = λ k l i j e. by_order k l (λ m. absurd (omega (arith, h.rising k l m j, e))) (λ m. m) (λ m. absurd (omega (arith, h.rising l k m i, e)));
-  positive = λ k l. b.positive (at_number order k) (h.inside k l);
+  positive = λ k l. b.positive (place order k) (h.inside k l);
 }
 
 -- ---- the direction
 over_is : (den e r x : ℤ) → IsOver (neg_ℤ den) e r x → x *ℤ e ≡ neg_ℤ (r *ℤ den)
 over_is den e r x h = ap (λ (y : ℤ). y *ℤ e) h.value_is ∙ *ℤ_assoc r h.times e ∙ ap (λ (y : ℤ). r *ℤ y) h.times_is ∙ mul_neg r den
 
-pub none_wide : (n : ℕ) (t : Table) (order : List ℕ) (den : ℤ) (column : ℕ) (values : List ℤ) → IsOrderOf t order → AreValuesTo n t order den column values → n ≤ length order → (k : ℕ) → k < n → IsWideOver den (own_entry t order k) (shown t (at_number order k) column) → ⊥
-none_wide n t order den column values o h l k b w = not_both den (own_entry t order k) (shown t (at_number order k) column) _ (o.positive k (omega arith)) (h.basic k b) w
+pub none_wide : (n : ℕ) (t : Table) (order : List ℕ) (den : ℤ) (column : ℕ) (values : List ℤ) → IsOrderOf t order → AreValuesTo n t order den column values → n ≤ length order → (k : ℕ) → k < n → IsWideOver den (own_entry t order k) (shown t (place order k) column) → ⊥
+none_wide n t order den column values o h l k b w = not_both den (own_entry t order k) (shown t (place order k) column) _ (o.positive k (omega arith)) (h.basic k b) w
 
 module _ (t : Table) (order : List ℕ) (den : ℤ) (column : ℕ) (moves raised d : List ℤ) (o : IsOrderOf t order) (h : AreValuesTo (length order) t order (neg_ℤ den) column moves) (width : length raised ≡ t.slack) (own : column < t.slack → entry raised column ≡ den) (other : (j : ℕ) → j ≢ column → entry raised j ≡ entry moves j) where
   direction_of : (times : ℤ) → length d ≡ length raised → ((j : ℕ) → j < length raised → entry raised j ≡ times *ℤ entry d j) → IsShownDirection t order den column times d
   direction_of times l e = record {
     width = l ∙ width;
-    basic = λ k b n. ap (λ (y : ℤ). y *ℤ own_entry t order k) (sym (e (place t.basis (at_number order k)) (omega (arith, width, o.before_slacks k b))) ∙ other (place t.basis (at_number order k)) n)
-        ∙ over_is den (own_entry t order k) (shown t (at_number order k) column) _ (h.basic k b);
+    basic = λ k b n. ap (λ (y : ℤ). y *ℤ own_entry t order k) (sym (e (place t.basis (place order k)) (omega (arith, width, o.before_slacks k b))) ∙ other (place t.basis (place order k)) n)
+        ∙ over_is den (own_entry t order k) (shown t (place order k) column) _ (h.basic k b);
     own = λ b. sym (e column (omega (arith, width))) ∙ own b;
     other = λ j b n f. sym (e j (omega (arith, width))) ∙ other j n ∙ h.other j f;
   }

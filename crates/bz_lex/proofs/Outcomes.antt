@@ -11,7 +11,7 @@ use Rattle.bz_tableau.specs.declared.answers.Answer.TheVariants.{Least, Empty, R
 use Rattle.bz_tableau.specs.declared.answers.LpStop.{LpStop}
 use Rattle.bz_tableau.specs.declared.programs.Lp.{Lp}
 use Rattle.bz_tableau.specs.Answers.{IsLeast, IsRay, IsAnswerOf, AnswersBasis, HasNoAnswer}
-use Rattle.bz_tableau.specs.WidePlaces.{at_number, HasAnswerSigns, IsTrueDen}
+use Rattle.bz_tableau.specs.WidePlaces.{HasAnswerSigns, IsTrueDen}
 use Rattle.bz_lex.specs.Refusals.{NamesFirstPlace, IsAnswerRefusal, IsFirstRay, IsFirstWidePlace, HasNoWidePlace}
 use Rattle.bz_lex.specs.Shown.{HasPoint, HasLeastCost, IsFreeFall, IsFirstFall, own_entry, IsNarrowLeast, IsShownOrder, ShowsLeast, ShowsRay, GoesWideAtLeast, GoesWideAtRay, IsFirstWideRay, IsWideOver, AnswersShown}
 use Rattle.bz_tableau.specs.Points.{IsRayColumn}
@@ -99,8 +99,8 @@ module _ (lp : Lp) (t : Table) (h : IsTableauOf false lp t) (p : HasPoint t) (co
   basis_of_ray = record { unrelaxed = refl; ray = ray_column lp t h column f }
 
   -- what isn't wide in the column isn't in the column of a ray
-  moved : (order : List ℕ) (den : ℤ) (k n : ℕ) → (IsWideOver (neg_ℤ den) (own_entry t order k) (shown t (at_number order k) column) → ⊥) → IsFirstRay false (program_of lp) (place t.basis) n → IsWideOver (neg_ℤ den) (own_entry t order k) (shown t (at_number order k) n) → ⊥
-  moved order den k n none r w = none (subst (λ (j : ℕ). IsWideOver (neg_ℤ den) (own_entry t order k) (shown t (at_number order k) j)) (same_column lp t h column n f r.ray) w)
+  moved : (order : List ℕ) (den : ℤ) (k n : ℕ) → (IsWideOver (neg_ℤ den) (own_entry t order k) (shown t (place order k) column) → ⊥) → IsFirstRay false (program_of lp) (place t.basis) n → IsWideOver (neg_ℤ den) (own_entry t order k) (shown t (place order k) n) → ⊥
+  moved order den k n none r w = none (subst (λ (j : ℕ). IsWideOver (neg_ℤ den) (own_entry t order k) (shown t (place order k) j)) (same_column lp t h column n f r.ray) w)
 
   first_ray : (order : List ℕ) (k : ℕ) → IsShownOrder t order → (den : ℤ) → IsNarrowLeast (length order) (own_entry t order) den → IsFirstWideRay t order den column k → IsFirstWidePlace false (program_of lp) (place t.basis) k
   first_ray order k o den narrow w = elim w.here [

@@ -17,7 +17,7 @@ use Rattle.bz_tableau.specs.declared.programs.Lp.{Lp}
 use Rattle.bz_tableau.proofs.RowsOfBasis.{rows_of_basis}
 use Rattle.bz_tableau.specs.Answers.{IsLeast, IsRay}
 use Rattle.bz_tableau.specs.Points.{IsOutside, IsPoint, IsDirection, FallsFreely, MakesRay, IsRayColumn}
-use Rattle.bz_tableau.specs.WidePlaces.{at_number, IsWideValue, HasAnswerSigns}
+use Rattle.bz_tableau.specs.WidePlaces.{IsWideValue, HasAnswerSigns}
 use Rattle.bz_lex.specs.Refusals.{IsWideForFirst, IsFirstRay, IsFirstWidePlace, HasNoWidePlace}
 use Rattle.bz_lex.specs.Shown.{HasPoint, HasLeastCost, IsFreeFall, IsFirstFall, own_entry, IsLeastTo, IsNarrowLeast, IsFirstWideLeast, IsWideOver, IsShownOrder, IsShownLeast, IsShownMove, IsShownRay}
 use Rattle.bz_lex.proofs.LeastMultiples.{least_divides, divides_narrow, least_same}
@@ -90,17 +90,17 @@ module _ (lp : Lp) (t : Table) (h : IsTableauOf false lp t) where
       outside = λ j b o. by_order j column (λ m. off j b (λ e. omega (arith, m, e)) o) (λ e. subst (λ (i : ℕ). move.times *ℤ entry d i ≡ only_at column den i) (sym e) (move.direction.own (omega (arith, b, e, slack_is false lp t h)) ∙ sym (only_here column den))) (λ m. off j b (λ e. omega (arith, m, e)) o);
       basic = λ k b l. let f = find false lp t h order shown_order k b l in
           subst (λ (i : ℕ). (move.times *ℤ entry d (basis i)) *ℤ shown t i (basis i) ≡ (shown t i (side few) *ℤ pos 0) -ℤ (shown t i column *ℤ den)) f.2
-          (move.direction.basic f.0 f.1 (λ e. outside (at_number order f.0) (inside f.0 f.1) e) ∙ as_said (shown t (at_number order f.0) column *ℤ den) (shown t (at_number order f.0) (side few)));
+          (move.direction.basic f.0 f.1 (λ e. outside (place order f.0) (inside f.0 f.1) e) ∙ as_said (shown t (place order f.0) column *ℤ den) (shown t (place order f.0) (side few)));
     }
       where
         as_said : (a b : ℤ) → neg_ℤ a ≡ (b *ℤ pos 0) -ℤ a
         as_said a b = omega (arith, ints, mul_zero b)
 
-        inside : (k : ℕ) → k < length order → at_number order k < length lp.rows
+        inside : (k : ℕ) → k < length order → place order k < length lp.rows
         inside k b = (is_order false lp t h order shown_order).inside k b
 
         off : (j : ℕ) → j < few.slack → j ≢ column → IsOutside few basis j → move.times *ℤ entry d j ≡ only_at column den j
-        off j b n o = move.direction.other j (omega (arith, b, slack_is false lp t h)) n (λ k l. o (at_number order k) (inside k l)) ∙ sym (only_off column den j n)
+        off j b n o = move.direction.other j (omega (arith, b, slack_is false lp t h)) n (λ k l. o (place order k) (inside k l)) ∙ sym (only_off column den j n)
 
     whole : IsWhole few basis (shown t) (pos 0) column den (extended few longer (pos 0))
     whole = whole_of_half few basis (shown t) (pos 0) column den longer (few_rows false lp t h) (inl (signs.inside, outside)) half
@@ -174,14 +174,14 @@ module _ (relaxed : Bool) (lp : Lp) (t : Table) (h : IsTableauOf relaxed lp t) w
           numbers_are
 
   -- ---- no wide place
-  module _ (order : List ℕ) (shown_order : IsShownOrder t order) (den : ℤ) (narrow : IsNarrowLeast (length order) (own_entry t order) den) (values : (k : ℕ) → k < length order → IsWideOver den (own_entry t order k) (shown t (at_number order k) (factor_column t)) → ⊥)
-      (moves : (k c : ℕ) → k < length order → IsFirstRay relaxed (program_of lp) (place t.basis) c → IsWideOver (neg_ℤ den) (own_entry t order k) (shown t (at_number order k) c) → ⊥) where
+  module _ (order : List ℕ) (shown_order : IsShownOrder t order) (den : ℤ) (narrow : IsNarrowLeast (length order) (own_entry t order) den) (values : (k : ℕ) → k < length order → IsWideOver den (own_entry t order k) (shown t (place order k) (factor_column t)) → ⊥)
+      (moves : (k c : ℕ) → k < length order → IsFirstRay relaxed (program_of lp) (place t.basis) c → IsWideOver (neg_ℤ den) (own_entry t order k) (shown t (place order k) c) → ⊥) where
     pub none_is_wide : HasNoWidePlace relaxed lp t.basis
     none_is_wide i w = let f = find relaxed lp t h order shown_order i w.inside w.before_slacks in
         not_wide relaxed lp t h order shown_order f.0 f.1
         (λ m g. narrow_multiples (length order) f.0 (own_entry t order) den m f.1 narrow g)
-        (λ e g x. values f.0 f.1 (subst (λ (y : ℤ). IsWideOver y (own_entry t order f.0) (shown t (at_number order f.0) (factor_column t))) (least_same (length order) (own_entry t order) e den g.is_least narrow.is_least) x))
-        (λ e c g r b x. moves f.0 c f.1 r (subst (λ (y : ℤ). IsWideOver (neg_ℤ y) (own_entry t order f.0) (shown t (at_number order f.0) c)) (least_same (length order) (own_entry t order) e den g.is_least narrow.is_least) x))
+        (λ e g x. values f.0 f.1 (subst (λ (y : ℤ). IsWideOver y (own_entry t order f.0) (shown t (place order f.0) (factor_column t))) (least_same (length order) (own_entry t order) e den g.is_least narrow.is_least) x))
+        (λ e c g r b x. moves f.0 c f.1 r (subst (λ (y : ℤ). IsWideOver (neg_ℤ y) (own_entry t order f.0) (shown t (place order f.0) c)) (least_same (length order) (own_entry t order) e den g.is_least narrow.is_least) x))
         (subst (λ (j : ℕ). IsWideForFirst relaxed (program_of lp) (place t.basis) j) (sym f.2) w)
 
   -- ---- the first wide place
@@ -206,9 +206,9 @@ module _ (relaxed : Bool) (lp : Lp) (t : Table) (h : IsTableauOf relaxed lp t) w
         too_wide e g = omega (arith, w.wide, narrow_multiples (length order) k (own_entry t order) e w.multiple w.inside g w.is_least)
 
     module _ (den : ℤ) (narrow : IsNarrowLeast (length order) (own_entry t order) den) (inside : k < length order)
-        (values : (l : ℕ) → l < k → IsWideOver den (own_entry t order l) (shown t (at_number order l) (factor_column t)) → ⊥)
-        (moves : (l c : ℕ) → l < k → IsFirstRay relaxed (program_of lp) (place t.basis) c → IsWideOver (neg_ℤ den) (own_entry t order l) (shown t (at_number order l) c) → ⊥) where
-      first_at : IsWideValue (rows_of relaxed (program_of lp)) (IsFirstRay relaxed (program_of lp) (place t.basis)) (place t.basis) (at_number order k) → IsFirstWidePlace relaxed (program_of lp) (place t.basis) k
+        (values : (l : ℕ) → l < k → IsWideOver den (own_entry t order l) (shown t (place order l) (factor_column t)) → ⊥)
+        (moves : (l c : ℕ) → l < k → IsFirstRay relaxed (program_of lp) (place t.basis) c → IsWideOver (neg_ℤ den) (own_entry t order l) (shown t (place order l) c) → ⊥) where
+      first_at : IsWideValue (rows_of relaxed (program_of lp)) (IsFirstRay relaxed (program_of lp) (place t.basis)) (place t.basis) (place order k) → IsFirstWidePlace relaxed (program_of lp) (place t.basis) k
       first_at w = record {
         order = order;
         is_order = is_order relaxed lp t h order shown_order;
@@ -220,32 +220,32 @@ module _ (relaxed : Bool) (lp : Lp) (t : Table) (h : IsTableauOf relaxed lp t) w
         };
         first = λ l b. not_wide relaxed lp t h order shown_order l (omega (arith, b, inside))
             (λ m g. narrow_multiples (length order) l (own_entry t order) den m (omega (arith, b, inside)) narrow g)
-            (λ e g x. values l b (subst (λ (y : ℤ). IsWideOver y (own_entry t order l) (shown t (at_number order l) (factor_column t))) (least_same (length order) (own_entry t order) e den g.is_least narrow.is_least) x))
-            (λ e c g r i x. moves l c b r (subst (λ (y : ℤ). IsWideOver (neg_ℤ y) (own_entry t order l) (shown t (at_number order l) c)) (least_same (length order) (own_entry t order) e den g.is_least narrow.is_least) x));
+            (λ e g x. values l b (subst (λ (y : ℤ). IsWideOver y (own_entry t order l) (shown t (place order l) (factor_column t))) (least_same (length order) (own_entry t order) e den g.is_least narrow.is_least) x))
+            (λ e c g r i x. moves l c b r (subst (λ (y : ℤ). IsWideOver (neg_ℤ y) (own_entry t order l) (shown t (place order l) c)) (least_same (length order) (own_entry t order) e den g.is_least narrow.is_least) x));
       }
 
-      pub wide_value : IsWideOver den (own_entry t order k) (shown t (at_number order k) (factor_column t)) → IsFirstWidePlace relaxed (program_of lp) (place t.basis) k
+      pub wide_value : IsWideOver den (own_entry t order k) (shown t (place order k) (factor_column t)) → IsFirstWidePlace relaxed (program_of lp) (place t.basis) k
       wide_value w = first_at (record {
         den = den;
         denominator = common_denominator relaxed lp t h order shown_order den narrow.is_least;
         narrow = narrow.narrow;
-        row = shown t (at_number order k);
-        is_row = (few_rows relaxed lp t h).rows (at_number order k) ((is_order relaxed lp t h order shown_order).inside k inside);
+        row = shown t (place order k);
+        is_row = (few_rows relaxed lp t h).rows (place order k) ((is_order relaxed lp t h order shown_order).inside k inside);
         times = w.times;
         times_is = w.times_is;
-        wide = inl (subst (λ (j : ℕ). IsWide (shown t (at_number order k) j *ℤ w.times)) (side_is relaxed lp t h) w.wide);
+        wide = inl (subst (λ (j : ℕ). IsWide (shown t (place order k) j *ℤ w.times)) (side_is relaxed lp t h) w.wide);
       })
 
-      pub wide_move : (c : ℕ) → IsFirstRay relaxed (program_of lp) (place t.basis) c → IsWideOver (neg_ℤ den) (own_entry t order k) (shown t (at_number order k) c) → IsFirstWidePlace relaxed (program_of lp) (place t.basis) k
+      pub wide_move : (c : ℕ) → IsFirstRay relaxed (program_of lp) (place t.basis) c → IsWideOver (neg_ℤ den) (own_entry t order k) (shown t (place order k) c) → IsFirstWidePlace relaxed (program_of lp) (place t.basis) k
       wide_move c r w = first_at (record {
         den = den;
         denominator = common_denominator relaxed lp t h order shown_order den narrow.is_least;
         narrow = narrow.narrow;
-        row = shown t (at_number order k);
-        is_row = (few_rows relaxed lp t h).rows (at_number order k) ((is_order relaxed lp t h order shown_order).inside k inside);
+        row = shown t (place order k);
+        is_row = (few_rows relaxed lp t h).rows (place order k) ((is_order relaxed lp t h order shown_order).inside k inside);
         times = neg_ℤ w.times;
         times_is = neg_mul w.times (own_entry t order k) ∙ ap neg_ℤ w.times_is ∙ neg_neg den;
-        wide = inr (c, r, subst (λ (x : ℤ). IsWide x) (sym (mul_neg (shown t (at_number order k) c) w.times)) (wide_neg (shown t (at_number order k) c *ℤ w.times) w.wide));
+        wide = inr (c, r, subst (λ (x : ℤ). IsWide x) (sym (mul_neg (shown t (place order k) c) w.times)) (wide_neg (shown t (place order k) c *ℤ w.times) w.wide));
       })
         where
           wide_neg : (x : ℤ) → IsWide x → IsWide (neg_ℤ x)

@@ -19,7 +19,7 @@ use Rattle.bz_tableau.specs.declared.programs.Lp.{Lp}
 use Rattle.bz_tableau.proofs.RowsOfBasis.{rows_of_basis}
 use Rattle.bz_tableau.specs.Answers.{IsBasisList, AreMultipliersFor}
 use Rattle.bz_tableau.specs.Points.{IsMultipleOfEntries, IsLeastMultiple, IsCommonDenominator, IsPoint, MeetsRows}
-use Rattle.bz_tableau.specs.WidePlaces.{at_number, IsRisingOrder, HasLeastSigns, IsWideValue}
+use Rattle.bz_tableau.specs.WidePlaces.{IsRisingOrder, HasLeastSigns, IsWideValue}
 use Rattle.bz_lex.specs.Refusals.{IsWideForFirst, IsFirstRay}
 use Rattle.bz_lex.specs.Shown.{HasPoint, HasLeastCost, own_entry, IsShownBasis, IsMultipleTo, IsLeastTo, IsNarrowLeast, IsOver, IsWideOver, IsShownOrder, IsShownPoint}
 use Rattle.bz_lex.proofs.PointSigns.{point_signs, multipliers_by_signs, signs_by_multipliers}
@@ -111,32 +111,32 @@ module _ (relaxed : Bool) (lp : Lp) (t : Table) (h : IsTableauOf relaxed lp t) w
     is_order = subst (λ (m : ℕ). IsRisingOrder m few.slack basis order) has.count (subst (λ (m : ℕ). IsRisingOrder (length t.basis) m basis order) has.slack shown_order)
 
     column : ℕ → ℕ
-    column k = basis (at_number order k)
+    column k = basis (place order k)
 
     -- the number of a place whose column is before the slacks
-    pub find : (i : ℕ) → i < length lp.rows → basis i < few.slack → (k : ℕ) × (k < length order) × (at_number order k ≡ i)
-    find i b l = let f = is_order.complete i b l in (f.0, f.1, has.basis.columns.different (at_number order f.0) i (is_order.inside f.0 f.1) b f.2)
+    pub find : (i : ℕ) → i < length lp.rows → basis i < few.slack → (k : ℕ) × (k < length order) × (place order k ≡ i)
+    find i b l = let f = is_order.complete i b l in (f.0, f.1, has.basis.columns.different (place order f.0) i (is_order.inside f.0 f.1) b f.2)
 
-    later : (k l : ℕ) → k < length order → l < length order → basis (at_number order k) < suc (basis (at_number order l)) → k < suc l
+    later : (k l : ℕ) → k < length order → l < length order → basis (place order k) < suc (basis (place order l)) → k < suc l
     later k l b c d = by_lt l k (λ m. absurd (omega (arith, is_order.rising l k m b, d))) (λ m. omega (arith, m))
 
-    earlier : (k l : ℕ) → k < suc l → l < length order → basis (at_number order k) < suc (basis (at_number order l))
-    earlier k l b c = by_order k l (λ m. omega (arith, is_order.rising k l m c)) (λ e. omega (arith, ap (λ (i : ℕ). basis (at_number order i)) e)) (λ m. absurd (omega (arith, b, m)))
+    earlier : (k l : ℕ) → k < suc l → l < length order → basis (place order k) < suc (basis (place order l))
+    earlier k l b c = by_order k l (λ m. omega (arith, is_order.rising k l m c)) (λ e. omega (arith, ap (λ (i : ℕ). basis (place order i)) e)) (λ m. absurd (omega (arith, b, m)))
 
     -- the number of a column is no less than its number in the order
-    pub number_small : (k : ℕ) → k < length order → k ≤ basis (at_number order k)
+    pub number_small : (k : ℕ) → k < length order → k ≤ basis (place order k)
     number_small zero b = omega arith
     number_small (suc k) b = omega (arith, number_small k (omega (arith, b)), is_order.rising k (suc k) (omega arith) b)
 
     -- ---- least common multiples
-    module _ (n bound : ℕ) (inside : (k : ℕ) → k < n → k < length order) (below : (k : ℕ) → k < n → basis (at_number order k) < bound) (found : (i : ℕ) → i < length lp.rows → basis i < bound → (k : ℕ) × (k < n) × (at_number order k ≡ i)) where
+    module _ (n bound : ℕ) (inside : (k : ℕ) → k < n → k < length order) (below : (k : ℕ) → k < n → basis (place order k) < bound) (found : (i : ℕ) → i < length lp.rows → basis i < bound → (k : ℕ) × (k < n) × (place order k ≡ i)) where
       entries_of : (d : ℕ) → IsMultipleTo n (own_entry t order) d → IsMultipleOfEntries few basis bound d
       entries_of d m i v b l r = let f = found i b l in
           subst (λ (x : ℤ). unsigned_abs x ∣ d) (row_of i v b r (basis i) (omega (arith, has.basis.columns.in_range i b)))
           (subst (λ (j : ℕ). unsigned_abs (shown t j (basis j)) ∣ d) f.2 (m f.0 f.1))
 
       of_entries : (d : ℕ) → IsMultipleOfEntries few basis bound d → IsMultipleTo n (own_entry t order) d
-      of_entries d m k b = m (at_number order k) (shown t (at_number order k)) (is_order.inside k (inside k b)) (below k b) (has.rows (at_number order k) (is_order.inside k (inside k b)))
+      of_entries d m k b = m (place order k) (shown t (place order k)) (is_order.inside k (inside k b)) (below k b) (has.rows (place order k) (is_order.inside k (inside k b)))
 
       least_multiple : (m : ℤ) → IsLeastTo n (own_entry t order) m → IsLeastMultiple few basis bound m
       least_multiple m l = record { positive = l.positive; multiple = entries_of (unsigned_abs m) l.multiple; least = λ d g. l.least d (of_entries d g) }
@@ -151,44 +151,44 @@ module _ (relaxed : Bool) (lp : Lp) (t : Table) (h : IsTableauOf relaxed lp t) w
     of_denominator = least_to (length order) few.slack (λ k b. b) is_order.before_slacks find
 
     module _ (l : ℕ) (within : l < length order) where
-      find_to : (i : ℕ) → i < length lp.rows → basis i < suc (basis (at_number order l)) → (k : ℕ) × (k < suc l) × (at_number order k ≡ i)
-      find_to i b c = let f = find i b (omega (arith, c, is_order.before_slacks l within)) in (f.0, later f.0 l f.1 within (subst (λ (j : ℕ). basis j < suc (basis (at_number order l))) (sym f.2) c), f.2)
+      find_to : (i : ℕ) → i < length lp.rows → basis i < suc (basis (place order l)) → (k : ℕ) × (k < suc l) × (place order k ≡ i)
+      find_to i b c = let f = find i b (omega (arith, c, is_order.before_slacks l within)) in (f.0, later f.0 l f.1 within (subst (λ (j : ℕ). basis j < suc (basis (place order l))) (sym f.2) c), f.2)
 
-      pub multiple_up_to : (m : ℤ) → IsLeastTo (suc l) (own_entry t order) m → IsLeastMultiple few basis (suc (basis (at_number order l))) m
-      multiple_up_to = least_multiple (suc l) (suc (basis (at_number order l))) (λ k b. omega (arith, b, within)) (λ k b. earlier k l b within) find_to
+      pub multiple_up_to : (m : ℤ) → IsLeastTo (suc l) (own_entry t order) m → IsLeastMultiple few basis (suc (basis (place order l))) m
+      multiple_up_to = least_multiple (suc l) (suc (basis (place order l))) (λ k b. omega (arith, b, within)) (λ k b. earlier k l b within) find_to
 
-      pub of_multiple : (m : ℤ) → IsLeastMultiple few basis (suc (basis (at_number order l))) m → IsLeastTo (suc l) (own_entry t order) m
-      of_multiple = least_to (suc l) (suc (basis (at_number order l))) (λ k b. omega (arith, b, within)) (λ k b. earlier k l b within) find_to
+      pub of_multiple : (m : ℤ) → IsLeastMultiple few basis (suc (basis (place order l))) m → IsLeastTo (suc l) (own_entry t order) m
+      of_multiple = least_to (suc l) (suc (basis (place order l))) (λ k b. omega (arith, b, within)) (λ k b. earlier k l b within) find_to
 
       -- ---- wide places
       -- where no multiple up to it and no value is wide, the place isn't
       pub not_wide : ((m : ℤ) → IsLeastTo (suc l) (own_entry t order) m → IsNarrow m)
-          → ((den : ℤ) → IsNarrowLeast (length order) (own_entry t order) den → IsWideOver den (own_entry t order l) (shown t (at_number order l) (factor_column t)) → ⊥)
-          → ((den : ℤ) (c : ℕ) → IsNarrowLeast (length order) (own_entry t order) den → IsFirstRay relaxed program basis c → c < side few → IsWideOver (neg_ℤ den) (own_entry t order l) (shown t (at_number order l) c) → ⊥)
-          → IsWideForFirst relaxed program basis (at_number order l) → ⊥
+          → ((den : ℤ) → IsNarrowLeast (length order) (own_entry t order) den → IsWideOver den (own_entry t order l) (shown t (place order l) (factor_column t)) → ⊥)
+          → ((den : ℤ) (c : ℕ) → IsNarrowLeast (length order) (own_entry t order) den → IsFirstRay relaxed program basis c → c < side few → IsWideOver (neg_ℤ den) (own_entry t order l) (shown t (place order l) c) → ⊥)
+          → IsWideForFirst relaxed program basis (place order l) → ⊥
       not_wide multiples values moves w = elim w.wide [
         | inl m ↦ omega (arith, m.wide, multiples m.multiple (of_multiple m.multiple m.is_multiple))
         | inr v ↦ not_value v
       ]
         where
-          not_value : IsWideValue few (IsFirstRay relaxed program basis) basis (at_number order l) → ⊥
+          not_value : IsWideValue few (IsFirstRay relaxed program basis) basis (place order l) → ⊥
           not_value v = elim v.wide [
-            | inl x ↦ values v.den least (record { times = v.times; times_is = times_is; wide = subst (λ (y : ℤ). IsWide (y *ℤ v.times)) (sym (same (side few) (omega arith)) ∙ ap (λ (j : ℕ). shown t (at_number order l) j) (sym side_is)) x })
+            | inl x ↦ values v.den least (record { times = v.times; times_is = times_is; wide = subst (λ (y : ℤ). IsWide (y *ℤ v.times)) (sym (same (side few) (omega arith)) ∙ ap (λ (j : ℕ). shown t (place order l) j) (sym side_is)) x })
             | inr x ↦ let inside : x.0 < side few = subst (λ (r : Bool). x.0 < side (rows_of r program)) (sym x.1.unrelaxed) x.1.ray.makes.1.inside in moves v.den x.0 least x.1 inside (record {
               times = neg_ℤ v.times;
               times_is = neg_mul v.times (own_entry t order l) ∙ ap neg_ℤ times_is;
-              wide = subst (λ (y : ℤ). IsWide y) (sym (mul_neg (shown t (at_number order l) x.0) v.times)) (wide_neg (shown t (at_number order l) x.0 *ℤ v.times) (subst (λ (y : ℤ). IsWide (y *ℤ v.times)) (sym (same x.0 (omega (arith, inside)))) x.2));
+              wide = subst (λ (y : ℤ). IsWide y) (sym (mul_neg (shown t (place order l) x.0) v.times)) (wide_neg (shown t (place order l) x.0 *ℤ v.times) (subst (λ (y : ℤ). IsWide (y *ℤ v.times)) (sym (same x.0 (omega (arith, inside)))) x.2));
             })
           ]
             where
-              same : (j : ℕ) → j ≤ side few → shown t (at_number order l) j ≡ v.row j
-              same j b = row_of (at_number order l) v.row w.inside v.is_row j b
+              same : (j : ℕ) → j ≤ side few → shown t (place order l) j ≡ v.row j
+              same j b = row_of (place order l) v.row w.inside v.is_row j b
 
               least : IsNarrowLeast (length order) (own_entry t order) v.den
               least = record { is_least = of_denominator v.den v.denominator; narrow = v.narrow }
 
               times_is : v.times *ℤ own_entry t order l ≡ v.den
-              times_is = ap (λ (y : ℤ). v.times *ℤ y) (same (basis (at_number order l)) (omega (arith, has.basis.columns.in_range (at_number order l) w.inside))) ∙ v.times_is
+              times_is = ap (λ (y : ℤ). v.times *ℤ y) (same (basis (place order l)) (omega (arith, has.basis.columns.in_range (place order l) w.inside))) ∙ v.times_is
 
               wide_neg : (x : ℤ) → IsWide x → IsWide (neg_ℤ x)
               wide_neg x g = omega (arith, ints, g)
@@ -197,7 +197,7 @@ module _ (relaxed : Bool) (lp : Lp) (t : Table) (h : IsTableauOf relaxed lp t) w
     pub shown_point : (z : Vals) → IsShownPoint t order z → IsPoint few basis (entry z.num) z.den
     shown_point z p = record {
       denominator = common_denominator z.den p.den.is_least;
-      outside = λ j b o. p.values.other j (λ k c. o (at_number order k) (is_order.inside k c));
+      outside = λ j b o. p.values.other j (λ k c. o (place order k) (is_order.inside k c));
       basic = λ i v b l r. let f = find i b l in
           ap (λ (x : ℤ). entry z.num (basis i) *ℤ x) (sym (row_of i v b r (basis i) (omega (arith, has.basis.columns.in_range i b))))
           ∙ subst (λ (j : ℕ). entry z.num (basis j) *ℤ shown t j (basis j) ≡ z.den *ℤ shown t j (factor_column t)) f.2 (value_is _ _ _ _ (p.values.basic f.0 f.1))

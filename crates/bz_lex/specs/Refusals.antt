@@ -5,7 +5,7 @@ use Rattle.bz_tableau.specs.Points.{IsRayColumn}
 use Rattle.bz_tableau.specs.Laws.{place}
 use Rattle.bz_tableau.specs.Programs.{program_of}
 use Rattle.bz_tableau.specs.Stops.{IsTrueStop, IsTrueRelaxedStop}
-use Rattle.bz_tableau.specs.WidePlaces.{HasAnswerSigns, IsWidePlace, IsTrueDen, at_number, IsRisingOrder}
+use Rattle.bz_tableau.specs.WidePlaces.{HasAnswerSigns, IsWidePlace, IsTrueDen, IsRisingOrder}
 use Rattle.bz_tableau.specs.declared.answers.Answer.{Answer}
 use Rattle.bz_tableau.specs.declared.answers.LpStop.{LpStop}
 use Rattle.bz_tableau.specs.declared.answers.LpStop.TheVariants.{Wide, OutOfMemory}
@@ -33,8 +33,8 @@ pub record IsFirstWidePlace (relaxed : Bool) (p : Program) (basis : ℕ → ℕ)
   pub order : List ℕ
   pub is_order : IsRisingOrder p.rows (rows_of relaxed p).slack basis order
   pub inside : at < length order
-  pub wide : IsWideForFirst relaxed p basis (at_number order at)
-  pub first : (k : ℕ) → k < at → IsWideForFirst relaxed p basis (at_number order k) → ⊥
+  pub wide : IsWideForFirst relaxed p basis (place order at)
+  pub first : (k : ℕ) → k < at → IsWideForFirst relaxed p basis (place order k) → ⊥
 
 -- neither the common denominator is wide, nor over it a number of the point or of the first ray's direction
 abbrev pub HasNoWidePlace : Bool → Lp → List ℕ → Type 0

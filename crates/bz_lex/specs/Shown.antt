@@ -13,7 +13,7 @@ use Rattle.bz_tableau.specs.declared.answers.LpStop.TheVariants.{Wide, OutOfMemo
 use Rattle.bz_tableau.specs.declared.answers.Vals.{Vals}
 use Rattle.bz_tableau.specs.declared.answers.WideAt.TheVariants.{Den}
 use Rattle.bz_tableau.specs.declared.programs.Lp.{Lp}
-use Rattle.bz_tableau.specs.WidePlaces.{at_number, IsRisingOrder}
+use Rattle.bz_tableau.specs.WidePlaces.{IsRisingOrder}
 
 -- ---- signs
 -- no right side is negative
@@ -46,13 +46,13 @@ pub record IsFirstFall (t : Table) (column : ℕ) : Type 0 where
 -- ---- the places of the basis in an order
 -- a basic column's own number in its row
 abbrev pub own_entry : Table → List ℕ → ℕ → ℤ
-own_entry t order k = shown t (at_number order k) (place t.basis (at_number order k))
+own_entry t order k = shown t (place order k) (place t.basis (place order k))
 
 -- places of the basis whose columns are before the slacks, each once
 pub record IsOrderOf (t : Table) (order : List ℕ) : Type 0 where
-  pub inside : (k : ℕ) → k < length order → at_number order k < length t.basis
-  pub before_slacks : (k : ℕ) → k < length order → place t.basis (at_number order k) < t.slack
-  pub different : (k l : ℕ) → k < length order → l < length order → place t.basis (at_number order k) ≡ place t.basis (at_number order l) → k ≡ l
+  pub inside : (k : ℕ) → k < length order → place order k < length t.basis
+  pub before_slacks : (k : ℕ) → k < length order → place t.basis (place order k) < t.slack
+  pub different : (k l : ℕ) → k < length order → l < length order → place t.basis (place order k) ≡ place t.basis (place order l) → k ≡ l
   pub positive : (k : ℕ) → k < length order → (pos 0) <ℤ (own_entry t order k)
 
 -- the columns of the basis differ, and each is positive in its own row
@@ -115,14 +115,14 @@ pub record IsWideOver (den entry number : ℤ) : Type 0 where
 -- the values of the first n basic columns of an order, each at its column, and 0 elsewhere: what the rows have in the column, over den
 pub record AreValuesTo (n : ℕ) (t : Table) (order : List ℕ) (den : ℤ) (column : ℕ) (values : List ℤ) : Type 0 where
   pub width : length values ≡ t.slack
-  pub basic : (k : ℕ) → k < n → IsOver den (own_entry t order k) (shown t (at_number order k) column) (entry values (place t.basis (at_number order k)))
-  pub other : (j : ℕ) → ((k : ℕ) → k < n → place t.basis (at_number order k) ≢ j) → entry values j ≡ pos 0
+  pub basic : (k : ℕ) → k < n → IsOver den (own_entry t order k) (shown t (place order k) column) (entry values (place t.basis (place order k)))
+  pub other : (j : ℕ) → ((k : ℕ) → k < n → place t.basis (place order k) ≢ j) → entry values j ≡ pos 0
 
 -- the first value that is wide
 pub record IsFirstWideOver (n : ℕ) (t : Table) (order : List ℕ) (den : ℤ) (column k : ℕ) : Type 0 where
   pub inside : k < n
-  pub here : IsWideOver den (own_entry t order k) (shown t (at_number order k) column)
-  pub first : (l : ℕ) → l < k → IsWideOver den (own_entry t order l) (shown t (at_number order l) column) → ⊥
+  pub here : IsWideOver den (own_entry t order k) (shown t (place order k) column)
+  pub first : (l : ℕ) → l < k → IsWideOver den (own_entry t order l) (shown t (place order l) column) → ⊥
 
 -- the objective row's numbers in the slacks
 pub record AreMultipliersShown (t : Table) (y : List ℤ) : Type 0 where
@@ -151,9 +151,9 @@ pub record IsShownLeast (t : Table) (basis : List ℕ) (z y : Vals) : Type 0 whe
 -- so many times d raises the column by den, and each basic column by what its row says
 pub record IsShownDirection (t : Table) (order : List ℕ) (den : ℤ) (column : ℕ) (times : ℤ) (d : List ℤ) : Type 0 where
   pub width : length d ≡ t.slack
-  pub basic : (k : ℕ) → k < length order → place t.basis (at_number order k) ≢ column → (times *ℤ entry d (place t.basis (at_number order k))) *ℤ own_entry t order k ≡ neg_ℤ (shown t (at_number order k) column *ℤ den)
+  pub basic : (k : ℕ) → k < length order → place t.basis (place order k) ≢ column → (times *ℤ entry d (place t.basis (place order k))) *ℤ own_entry t order k ≡ neg_ℤ (shown t (place order k) column *ℤ den)
   pub own : column < t.slack → times *ℤ entry d column ≡ den
-  pub other : (j : ℕ) → j < t.slack → j ≢ column → ((k : ℕ) → k < length order → place t.basis (at_number order k) ≢ j) → times *ℤ entry d j ≡ pos 0
+  pub other : (j : ℕ) → j < t.slack → j ≢ column → ((k : ℕ) → k < length order → place t.basis (place order k) ≢ j) → times *ℤ entry d j ≡ pos 0
 
 -- old is 0 everywhere and new is old, or it is a positive number of times new, which has no common divisor but 1
 abbrev pub IsPrimitivePart : List ℤ → List ℤ → Type 0
@@ -165,7 +165,7 @@ pub record IsShownMove (t : Table) (order : List ℕ) (den : ℤ) (column : ℕ)
   pub times_positive : (pos 0) <ℤ times
   pub direction : IsShownDirection t order den column times d
   pub primitive : ((j : ℕ) → j < length d → entry d j ≡ pos 0) ⊎ ((g : ℕ) → DividesRow g d → g ≡ 1)
-  pub narrow : (k : ℕ) → k < length order → IsWideOver (neg_ℤ den) (own_entry t order k) (shown t (at_number order k) column) → ⊥
+  pub narrow : (k : ℕ) → k < length order → IsWideOver (neg_ℤ den) (own_entry t order k) (shown t (place order k) column) → ⊥
 
 -- the point and the direction
 pub record IsShownRay (t : Table) (column : ℕ) (basis : List ℕ) (named : ℕ) (z : Vals) (d : List ℤ) : Type 0 where
@@ -190,9 +190,9 @@ ShowsRay t column (Ray basis named z d) = IsShownRay t column basis named z d
 -- a value of the point is wide at k, or one of the direction, and none before
 pub record IsFirstWideRay (t : Table) (order : List ℕ) (den : ℤ) (column k : ℕ) : Type 0 where
   pub inside : k < length order
-  pub here : IsWideOver den (own_entry t order k) (shown t (at_number order k) (factor_column t)) ⊎ IsWideOver (neg_ℤ den) (own_entry t order k) (shown t (at_number order k) column)
-  pub first_value : (l : ℕ) → l < k → IsWideOver den (own_entry t order l) (shown t (at_number order l) (factor_column t)) → ⊥
-  pub first_move : (l : ℕ) → l < k → IsWideOver (neg_ℤ den) (own_entry t order l) (shown t (at_number order l) column) → ⊥
+  pub here : IsWideOver den (own_entry t order k) (shown t (place order k) (factor_column t)) ⊎ IsWideOver (neg_ℤ den) (own_entry t order k) (shown t (place order k) column)
+  pub first_value : (l : ℕ) → l < k → IsWideOver den (own_entry t order l) (shown t (place order l) (factor_column t)) → ⊥
+  pub first_move : (l : ℕ) → l < k → IsWideOver (neg_ℤ den) (own_entry t order l) (shown t (place order l) column) → ⊥
 
 pub record GoesWideAtLeast (t : Table) (k : ℕ) : Type 0 where
   pub order : List ℕ

@@ -7,9 +7,7 @@ use Rattle.bz_tableau.specs.declared.answers.Answer.TheVariants.{Least, Empty, R
 use Rattle.bz_tableau.specs.declared.programs.Lp.{Lp}
 
 pub solved_given : (lp : Lp) (a : Answer) → Answers lp a → GivesAnswer (is_of_relaxed a) (column_of a) lp (basis_of a) a
-solved_given lp (Least basis z y) h = record { basis_is = refl; column_is = refl; answer = h }
-solved_given lp (Empty basis y) h = record { basis_is = refl; column_is = refl; answer = (refl, h) }
-solved_given lp (Ray basis column z d) h = record { basis_is = refl; column_is = refl; answer = (refl, h) }
+solved_given lp a h = record { basis_is = refl; column_is = refl; answer = h }
 
 pub answer_given : (relaxed : Bool) (lp : Lp) (a : Answer) → IsAnswer relaxed lp a → GivesAnswer relaxed (column_of a) lp (basis_of a) a
 answer_given relaxed lp (Least basis z y) h = record { basis_is = refl; column_is = refl; answer = h }

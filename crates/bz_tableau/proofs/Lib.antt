@@ -9,3 +9,4 @@ pub mod TrueAnswers
 pub mod Turned
 pub mod Turns
 mod Worked
+mod WorkedWide

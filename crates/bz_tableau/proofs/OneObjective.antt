@@ -3,13 +3,12 @@ use Rattle.std.specs.Prelude.{ℕ, suc, ◌+◌, ◌<◌, ◌≤◌, ◌≡◌, 
 use Rattle.std.specs.Int.{◌∣◌}
 use Rattle.std.proofs.Common.{ap, sym, subst, ◌∙◌, arith}
 use Rattle.bz_algebra.specs.Sums.{upto}
-use Rattle.bz_algebra.specs.Tableaus.{Equations, side, Program, IsBasis, IsCombination, IsRow, IsTableau, IsObjectiveRow, AreAlike, DifferInRightSides, row_entry, objective_entry, rows_of, equations_of, factor, with_factor}
+use Rattle.bz_algebra.specs.Tableaus.{Equations, side, Program, IsBasis, IsCombination, IsRow, IsTableau, IsObjectiveRow, AreAlike, row_entry, objective_entry, rows_of, equations_of, factor, with_factor}
 use Rattle.bz_algebra.proofs.Agreement.{same_objective}
 use Rattle.bz_algebra.proofs.Bounded.{with_last, with_last_at, with_last_before}
 use Rattle.bz_algebra.proofs.Combinations.{combination_upto}
 use Rattle.bz_algebra.proofs.Objectives.{basis_with_objective}
 use Rattle.bz_algebra.proofs.Programs.{own, own_is, own_row, row_of_objective}
-use Rattle.bz_algebra.proofs.RightSides.{basis_of_other, differ_back, objective_of_other}
 use Rattle.bz_algebra.proofs.Ring.{mul_zero, mul_one}
 use Rattle.bz_algebra.proofs.SumLemmas.{upto_same, upto_only}
 use Rattle.bz_algebra.proofs.Uniqueness.{basis_tableau, row_unique}
@@ -76,10 +75,3 @@ one_objective relaxed p basis other d e y z b c alike h k =
     let second : (u.0 p.rows (factor relaxed p) ≡ e) × ((i : ℕ) → i < p.rows → u.0 p.rows ((equations_of relaxed p).slack + i) ≡ z i) = objective_is relaxed p other u.0 u.1 e z k in
     let rows : (j : ℕ) → j ≤ side (equations_of relaxed p) → t.0 p.rows j ≡ u.0 p.rows j = same_objective relaxed p basis other t.0 u.0 t.1 u.1 alike.there in
     (sym first.0 ∙ rows (factor relaxed p) (omega arith) ∙ second.0, λ i l. sym (first.1 i l) ∙ rows ((equations_of relaxed p).slack + i) (omega arith) ∙ second.1 i l)
-
--- and they are the same in two programs that differ in their right sides alone
-pub one_objective_of_two : (relaxed : Bool) (p q : Program) (basis other : ℕ → ℕ) (d e : ℤ) (y z : ℕ → ℤ) → DifferInRightSides p q → IsBasis (rows_of relaxed p) basis → IsBasis (rows_of relaxed q) other → AreAlike p.rows basis other
-    → IsObjectiveRow relaxed p basis d y → IsObjectiveRow relaxed q other e z → (d ≡ e) × ((i : ℕ) → i < p.rows → y i ≡ z i)
-one_objective_of_two relaxed p q basis other d e y z h b c alike o k =
-    let back = differ_back p q h in
-    one_objective relaxed p basis other d e y z b (basis_of_other relaxed q p other back c) alike o (objective_of_other relaxed q p other e z back k)

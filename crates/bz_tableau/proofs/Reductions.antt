@@ -1,18 +1,15 @@
 -- Rows divided by their greatest common divisor, number by number.
-use Rattle.std.proofs.Common.{◌≡◌, ◌≢◌, refl, ap, sym, subst, ◌∙◌, inl, inr, ℕ, ◌+◌, ◌*◌, ◌<◌, ◌≤◌, arith, ℤ, pos, ◌-ℤ◌, ◌*ℤ◌, ◌<ℤ◌, ◌≤ℤ◌, neg_ℤ, List, length, set, take, drop, ◌++◌}
-use Rattle.std.proofs.Math.Nat.{mul-dvd-mul_left, dvd_of_mul-dvd-mul_left, one-dvd, eq-one_of_dvd-one, eq-zero_of_zero-dvd}
+use Rattle.std.proofs.Common.{◌≡◌, ◌≢◌, ap, sym, subst, ◌∙◌, ℕ, ◌<◌, arith, ℤ, pos, ◌-ℤ◌, ◌*ℤ◌, ◌<ℤ◌, ◌≤ℤ◌, neg_ℤ, List, length, take, drop, ◌++◌}
+use Rattle.std.proofs.Math.Nat.{eq-zero_of_zero-dvd}
 use Rattle.std.proofs.Math.Seq.{take-length}
-use Rattle.std.proofs.lemmas.Bool.{cases_eq}
-use Rattle.std.proofs.lemmas.Int.{ints, unsigned_abs-mul}
-use Rattle.std.proofs.lemmas.List.{take-append-le, get_or-set_same, get_or-set_other, length-set}
-use Rattle.std.proofs.lemmas.Nat.Gcd.{dvd_trans, dvd-zero}
-use Rattle.std.specs.Int.{IsGcd, ◌∣◌}
+use Rattle.std.proofs.lemmas.Int.{ints}
+use Rattle.std.proofs.lemmas.List.{take-append-le}
+use Rattle.std.specs.Int.{◌∣◌}
 use Rattle.std.specs.Int.RustNames.{unsigned_abs}
-use Rattle.bz_algebra.specs.Numbers.{IsNarrow}
-use Rattle.bz_algebra.proofs.Ring.{mul_zero, zero_mul, one_mul, neg_mul, cancel_lt_left, neg_positive, by_sign}
+use Rattle.bz_algebra.proofs.Ring.{mul_zero, zero_mul, neg_mul, cancel_lt_left, neg_positive, by_sign}
 use Rattle.bz_num.proofs.DenseRows.{quotients_primitive}
 use Rattle.bz_num.proofs.Quotients.{zero_from_size}
-use Rattle.bz_tableau.specs.Dense.{entry, AreNarrow, DividesRow, IsDivisorOf, IsDivided, IsReduced}
+use Rattle.bz_tableau.specs.Dense.{entry, IsDivisorOf, IsDivided, IsReduced}
 
 -- ---- the reduced row
 -- a divisor of the same sign makes a positive number

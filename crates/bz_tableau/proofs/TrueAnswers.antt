@@ -10,8 +10,8 @@ use Rattle.bz_algebra.proofs.Ring.{*ℤ_assoc, add_mul, mul_add, mul_left, mul_r
 use Rattle.bz_algebra.proofs.SumLemmas.{upto_same, upto_add, upto_scale, upto_scale_right, upto_rows, upto_le, upto_only, upto_zero}
 use Rattle.bz_tableau.specs.Answers.{AreMultipliersFor, IsLeast, IsEmpty, IsRay}
 use Rattle.bz_tableau.specs.Dense.{entry}
-use Rattle.bz_tableau.specs.Points.{terms, MeetsRows, FallsFreely}
-use Rattle.bz_tableau.specs.Truths.{IsPointOf, cost_at, CostsLeast, HasLeastS, HasNoPoint, CostsBelowAll}
+use Rattle.bz_tableau.specs.Points.{terms, cost_at, MeetsRows, FallsFreely}
+use Rattle.bz_tableau.specs.Truths.{IsPointOf, CostsLeast, HasLeastS, HasNoPoint, along, FallsBelowAll}
 use Rattle.bz_tableau.specs.declared.answers.Vals.{Vals}
 
 -- ---- rows times multipliers that aren't negative
@@ -93,12 +93,7 @@ sum_along n e z d k = upto_same n _ (λ j. (e j *ℤ z j) +ℤ (k *ℤ (e j *ℤ
     ∙ ap (λ (t : ℤ). upto n (λ j. e j *ℤ z j) +ℤ t) (upto_scale n k (λ j. e j *ℤ d j))
 
 module _ (p : Program) (z d : ℕ → ℤ) (den : ℤ) (positive : (pos 0) <ℤ den) (meets : MeetsRows (rows_of false p) z den) (falls : FallsFreely p d) where
-  -- the point so far along
-  along : ℤ → ℕ → ℤ
-  along k j = z j +ℤ (k *ℤ d j)
-
-  along_point : (k : ℤ) → (pos 0) ≤ℤ k → IsPointOf false p (along k) den
-  unfolding along
+  along_point : (k : ℤ) → (pos 0) ≤ℤ k → IsPointOf false p (along z d k) den
   along_point k h = record {
     positive = positive;
     meets = record {
@@ -110,16 +105,19 @@ module _ (p : Program) (z d : ℕ → ℤ) (den : ℤ) (positive : (pos 0) <ℤ 
   far : ℤ → ℤ
   far n = pos (suc (nat_abs (upto p.columns (λ j. p.cost j *ℤ z j) -ℤ (n *ℤ den))))
 
-  along_cost : (n : ℤ) → (cost_at false p (along (far n))) <ℤ (n *ℤ den)
-  unfolding along far
+  along_cost : (n : ℤ) → (cost_at false p (along z d (far n))) <ℤ (n *ℤ den)
+  unfolding far
   along_cost n = rw (sum_along p.columns p.cost z d (far n)) (low (upto p.columns (λ j. p.cost j *ℤ z j)) (upto p.columns (λ j. p.cost j *ℤ d j)) (n *ℤ den) falls.cost)
     where
       low : (c e g : ℤ) → e <ℤ (pos 0) → (c +ℤ (pos (suc (nat_abs (c -ℤ g))) *ℤ e)) <ℤ g
       low c e g h = omega (arith, ints, mul_le_left (pos (suc (nat_abs (c -ℤ g)))) e (neg_ℤ (pos 1)) (omega (arith, ints)) (omega (arith, ints)), mul_neg (pos (suc (nat_abs (c -ℤ g)))) (pos 1), mul_one (pos (suc (nat_abs (c -ℤ g)))))
 
-  pub falls_below_all : CostsBelowAll p
+  far_positive : (n : ℤ) → (pos 0) ≤ℤ (far n)
   unfolding far
-  falls_below_all n = (along (far n), den, along_point (far n) (omega (arith, ints)), along_cost n)
+  far_positive n = omega (arith, ints)
 
-pub ray_falls_below : (p : Program) (basis : List ℕ) (column : ℕ) (z : Vals) (d : List ℤ) → IsRay p basis column z d → CostsBelowAll p
+  pub falls_below_all : FallsBelowAll p z den d
+  falls_below_all = record { points = along_point; costs = λ n. (far n, far_positive n, along_cost n) }
+
+pub ray_falls_below : (p : Program) (basis : List ℕ) (column : ℕ) (z : Vals) (d : List ℤ) → IsRay p basis column z d → FallsBelowAll p (entry z.num) z.den (entry d)
 ray_falls_below p basis column z d a = falls_below_all p (entry z.num) (entry d) z.den a.point.denominator.positive a.meets a.falls

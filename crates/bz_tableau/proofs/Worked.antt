@@ -1,5 +1,5 @@
--- Three programs by hand, one for each answer, so that the definitions of answers are seen to say what they should.
-use Rattle.std.specs.Prelude.{ℕ, zero, suc, ◌+◌, ◌<◌, ◌≤◌, ◌≡◌, ◌≢◌, ℤ, pos, negsuc, ◌+ℤ◌, ◌*ℤ◌, ◌≤ℤ◌, [], ◌∷◌, unsigned_abs, true, false}
+-- Programs by hand, one for each answer and a relaxed one, so that the definitions of answers are seen to say what they should.
+use Rattle.std.specs.Prelude.{ℕ, zero, suc, ◌+◌, ◌<◌, ◌≤◌, ◌≡◌, ◌≢◌, ℤ, pos, negsuc, ◌+ℤ◌, ◌*ℤ◌, ◌≤ℤ◌, [], ◌∷◌, None, unsigned_abs, true, false}
 use Rattle.std.specs.Int.{◌∣◌}
 use Rattle.std.proofs.Common.{refl, subst, arith}
 use Rattle.std.proofs.Math.Nat.{eq-one_of_dvd-one, one-dvd}
@@ -8,10 +8,13 @@ use Rattle.std.proofs.lemmas.Int.{ints}
 use Rattle.bz_algebra.specs.Sums.{upto}
 use Rattle.bz_algebra.specs.Tableaus.{Program, Equations, IsRow, IsTableau, rows_of, side, row_entry, objective_entry}
 use Rattle.bz_algebra.proofs.Uniqueness.{row_unique, tableau_basis}
-use Rattle.bz_tableau.specs.Answers.{IsLeast, IsEmpty, IsRay}
+use Rattle.bz_tableau.specs.Answers.{column_sum, IsLeast, IsEmpty, IsRay, GivesAnswer}
 use Rattle.bz_tableau.specs.Dense.{entry}
 use Rattle.bz_tableau.specs.Laws.{place}
-use Rattle.bz_tableau.specs.Points.{IsOutside}
+use Rattle.bz_tableau.specs.Points.{terms, IsOutside}
+use Rattle.bz_tableau.specs.Programs.{program_of}
+use Rattle.bz_tableau.specs.declared.answers.Answer.TheVariants.{Least}
+use Rattle.bz_tableau.specs.declared.programs.Lp.{Lp}
 use Rattle.bz_tableau.specs.declared.answers.Vals.{Vals}
 
 -- each program has one row and one column z
@@ -146,6 +149,72 @@ empty_is = record {
   columns = λ j l. omega (arith, ints);
   right = omega (arith, ints);
 }
+
+-- ---- the same row, relaxed: s is at least 1, and 1 at z = 0
+abbrev needs_s : Lp
+needs_s = record { columns = 1; rows = record { terms = (0, pos 1) ∷ []; rhs = negsuc 0; rhs_narrow = omega arith } ∷ []; cost = [] }
+
+abbrev with_s : Equations
+with_s = rows_of true (program_of needs_s)
+
+two_only : (P : ℕ → Type 0) → P 0 → P 1 → (j : ℕ) → j < 2 → P j
+two_only P p q zero l = p
+two_only P p q (suc zero) l = q
+two_only P p q (suc (suc j)) l = absurd (omega arith)
+
+s_is_row : IsRow with_s (place (1 ∷ [])) 0 empty_row
+unfolding empty_row
+s_is_row = record {
+  combination = record { columns = two_only (λ j. empty_row j ≡ upto 1 (λ i. negsuc 0 *ℤ row_entry true (program_of needs_s) i j)) refl refl; right = refl };
+  primitive = λ d h. eq-one_of_dvd-one (h 1 (omega arith));
+  positive = omega (arith, ints);
+  cleared = λ k l n. absurd (omega arith);
+}
+
+abbrev s_point : Vals
+s_point = record { num = pos 0 ∷ pos 1 ∷ []; den = pos 1; den_positive = omega (arith, ints) }
+
+abbrev s_multipliers : Vals
+s_multipliers = record { num = pos 1 ∷ []; den = pos 1; den_positive = omega (arith, ints) }
+
+s_is_least : IsLeast true (program_of needs_s) (1 ∷ []) s_point s_multipliers
+unfolding empty_row
+s_is_least = record {
+  is_basis = record { count = refl; is_basis = tableau_basis with_s (place (1 ∷ [])) (λ i. empty_row) (one_tableau with_s (place (1 ∷ [])) empty_row refl (omega arith) s_is_row) };
+  numbers = refl;
+  point = record {
+    denominator = record {
+      positive = omega (arith, ints);
+      multiple = λ i v l m r. only (λ i v. unsigned_abs (v (place (1 ∷ []) i)) ∣ 1) (λ v e. subst (λ (x : ℤ). unsigned_abs x ∣ 1) (e 1 (omega arith)) (dvd_refl 1)) i v l r;
+      least = λ d h. one-dvd d;
+    };
+    outside = two_only (λ j. IsOutside with_s (place (1 ∷ [])) j → entry (pos 0 ∷ pos 1 ∷ []) j ≡ pos 0) (λ o. refl) (λ o. absurd (o 0 (omega arith) refl));
+    basic = λ i v l m r. only (λ i v. entry (pos 0 ∷ pos 1 ∷ []) (place (1 ∷ []) i) *ℤ v (place (1 ∷ []) i) ≡ pos 1 *ℤ v 3) (λ v e. rw (← (e 1 (omega arith)), ← (e 3 (omega arith))) refl) i v l r;
+  };
+  meets = record {
+    rows_hold = first_only (λ i. (terms with_s (entry (pos 0 ∷ pos 1 ∷ [])) i) ≤ℤ (with_s.right i *ℤ pos 1)) (omega (arith, ints));
+    nonnegative = two_only (λ j. (pos 0) ≤ℤ (entry (pos 0 ∷ pos 1 ∷ []) j)) (omega (arith, ints)) (omega (arith, ints));
+  };
+  multipliers = refl;
+  objective = record {
+    positive = omega (arith, ints);
+    primitive = λ g h k. eq-one_of_dvd-one h;
+    columns = λ k l m. first_only (λ k. column_sum true (program_of needs_s) (entry (pos 1 ∷ [])) (place (1 ∷ []) k) +ℤ (pos 1 *ℤ objective_entry true (program_of needs_s) (place (1 ∷ []) k)) ≡ pos 0) refl k l;
+    slacks = λ k i l m e. first_only (λ k. place (1 ∷ []) k ≡ 2 + i → entry (pos 1 ∷ []) i ≡ pos 0) (λ e. absurd (omega (arith, e))) k l e;
+  };
+  bounds = record {
+    multipliers = first_only (λ i. (pos 0) ≤ℤ (entry (pos 1 ∷ []) i)) (omega (arith, ints));
+    columns = two_only (λ j. (pos 0) ≤ℤ ((pos 1 *ℤ objective_entry true (program_of needs_s) j) +ℤ column_sum true (program_of needs_s) (entry (pos 1 ∷ [])) j)) (omega (arith, ints)) (omega (arith, ints));
+  };
+  same_cost = refl;
+}
+  where
+    only : (P : ℕ → (ℕ → ℤ) → Type 0) → ((v : ℕ → ℤ) → ((j : ℕ) → j ≤ 3 → empty_row j ≡ v j) → P 0 v) → (i : ℕ) (v : ℕ → ℤ) → i < 1 → IsRow with_s (place (1 ∷ [])) i v → P i v
+    only = only_row with_s (place (1 ∷ [])) empty_row refl (omega arith) s_is_row
+
+-- the basis of the relaxed program, s alone, gives the answer
+s_is_given : GivesAnswer true None needs_s (1 ∷ []) (Least (1 ∷ []) s_point s_multipliers)
+s_is_given = record { basis_is = refl; column_is = refl; answer = s_is_least }
 
 -- ---- minimise -z over -z <= 0: from the point 0 the cost falls along z
 abbrev ray : Program

@@ -10,21 +10,30 @@ use Rattle.bz_tableau.specs.declared.answers.Answer.{Answer}
 use Rattle.bz_tableau.specs.declared.answers.Answer.TheVariants.{Least, Empty, Ray}
 use Rattle.bz_tableau.specs.declared.answers.Vals.{Vals}
 use Rattle.bz_tableau.specs.declared.programs.Lp.{Lp}
-use Rattle.bz_tableau.specs.Points.{IsPoint, MeetsRows, IsDirection, FallsFreely, IsRayColumn}
+use Rattle.bz_tableau.specs.Points.{cost_at, IsPoint, MeetsRows, IsDirection, FallsFreely, IsRayColumn}
 
 -- the list is a basis of the program: a column for each row
 pub record IsBasisList (relaxed : Bool) (p : Program) (basis : List ℕ) : Type 0 where
   pub count : length basis ≡ p.rows
   pub is_basis : IsBasis (rows_of relaxed p) (place basis)
 
--- no number of y is negative, and den times the cost plus y times the rows is negative in no column
+-- the rows times y, in a column
+abbrev pub column_sum : Bool → Program → (ℕ → ℤ) → ℕ → ℤ
+column_sum relaxed p y j = upto p.rows (λ i. y i *ℤ row_entry relaxed p i j)
+
+-- the right sides times y
+abbrev pub side_sum : Program → (ℕ → ℤ) → ℤ
+side_sum p y = upto p.rows (λ i. y i *ℤ p.rhs i)
+
+-- no number of y is negative, and den times the cost plus the rows times y is negative in no column
 pub record AreMultipliersFor (relaxed : Bool) (p : Program) (den : ℤ) (y : ℕ → ℤ) : Type 0 where
   pub multipliers : (i : ℕ) → i < p.rows → (pos 0) ≤ℤ (y i)
-  pub columns : (j : ℕ) → j < (rows_of relaxed p).slack → (pos 0) ≤ℤ ((den *ℤ objective_entry relaxed p j) +ℤ upto p.rows (λ i. y i *ℤ row_entry relaxed p i j))
+  pub columns : (j : ℕ) → j < (rows_of relaxed p).slack
+      → (pos 0) ≤ℤ ((den *ℤ objective_entry relaxed p j) +ℤ column_sum relaxed p y j)
 
 -- the cost of z / den is the sum of y / by times the right sides, with the other sign
 abbrev pub IsSameCost : Bool → Program → (ℕ → ℤ) → ℤ → (ℕ → ℤ) → ℤ → Type 0
-IsSameCost relaxed p z den y by = upto (rows_of relaxed p).slack (λ j. objective_entry relaxed p j *ℤ z j) *ℤ by ≡ neg_ℤ (upto p.rows (λ i. y i *ℤ p.rhs i)) *ℤ den
+IsSameCost relaxed p z den y by = cost_at relaxed p z *ℤ by ≡ neg_ℤ (side_sum p y) *ℤ den
 
 -- ---- a point of least cost
 -- the point of the basis meets the rows, and the multipliers of its objective row show that no point that does costs less
@@ -46,8 +55,8 @@ pub record IsEmpty (p : Program) (basis : List ℕ) (y : List ℤ) : Type 0 wher
   pub den : ℤ
   pub objective : IsObjectiveRow true p (place basis) den (entry y)
   pub nonnegative : (i : ℕ) → i < p.rows → (pos 0) ≤ℤ (entry y i)
-  pub columns : (j : ℕ) → j < p.columns → (pos 0) ≤ℤ (upto p.rows (λ i. entry y i *ℤ p.term i j))
-  pub right : (upto p.rows (λ i. entry y i *ℤ p.rhs i)) <ℤ (pos 0)
+  pub columns : (j : ℕ) → j < p.columns → (pos 0) ≤ℤ (column_sum false p (entry y) j)
+  pub right : (side_sum p (entry y)) <ℤ (pos 0)
 
 -- ---- a cost without bound
 -- the point of the basis meets the rows, and from it the cost falls freely where the column rises; d has no common divisor but 1
@@ -62,23 +71,27 @@ pub record IsRay (p : Program) (basis : List ℕ) (column : ℕ) (z : Vals) (d :
   pub primitive : (g : ℕ) → ((j : ℕ) → j < p.columns → g ∣ unsigned_abs (entry d j)) → g ≡ 1
 
 -- ---- answers
--- the answer of the program, relaxed as said, by a basis of that very program. A relaxed one has a point of least cost alone, since s is never negative
-abbrev pub IsAnswer : Bool → Lp → Answer → Type 0
-IsAnswer relaxed lp (Least basis z y) = IsLeast relaxed (program_of lp) basis z y
-IsAnswer relaxed lp (Empty basis y) = ⊥
-IsAnswer relaxed lp (Ray basis column z d) = (relaxed ≡ false) × IsRay (program_of lp) basis column z d
-
--- what the program comes to: one of the three, where no point is shown by a basis of the relaxed program
-abbrev pub Answers : Lp → Answer → Type 0
-Answers lp (Least basis z y) = IsLeast false (program_of lp) basis z y
-Answers lp (Empty basis y) = IsEmpty (program_of lp) basis y
-Answers lp (Ray basis column z d) = IsRay (program_of lp) basis column z d
-
 -- the answer is shown by a basis of the program, relaxed as said: that there is no point by one of the relaxed program, and a ray by one of the program itself
 abbrev pub IsShownBy : Bool → Lp → Answer → Type 0
 IsShownBy relaxed lp (Least basis z y) = IsLeast relaxed (program_of lp) basis z y
 IsShownBy relaxed lp (Empty basis y) = (relaxed ≡ true) × IsEmpty (program_of lp) basis y
 IsShownBy relaxed lp (Ray basis column z d) = (relaxed ≡ false) × IsRay (program_of lp) basis column z d
+
+-- whether the answer's basis is one of the relaxed program, as it is where there is no point
+abbrev pub is_of_relaxed : Answer → Bool
+is_of_relaxed (Least basis z y) = false
+is_of_relaxed (Empty basis y) = true
+is_of_relaxed (Ray basis column z d) = false
+
+-- what the program comes to: one of the three
+abbrev pub Answers : Lp → Answer → Type 0
+Answers lp a = IsShownBy (is_of_relaxed a) lp a
+
+-- the answer of the program, relaxed as said, by a basis of that very program, which always has a point. A relaxed one has a point of least cost alone, since s is never negative
+abbrev pub IsAnswer : Bool → Lp → Answer → Type 0
+IsAnswer relaxed lp (Least basis z y) = IsShownBy relaxed lp (Least basis z y)
+IsAnswer relaxed lp (Empty basis y) = ⊥
+IsAnswer relaxed lp (Ray basis column z d) = IsShownBy relaxed lp (Ray basis column z d)
 
 abbrev pub basis_of : Answer → List ℕ
 basis_of (Least basis z y) = basis
@@ -90,12 +103,6 @@ abbrev pub column_of : Answer → Option ℕ
 column_of (Least basis z y) = None
 column_of (Empty basis y) = None
 column_of (Ray basis column z d) = Some column
-
--- whether the answer's basis is one of the relaxed program, as it is where there is no point
-abbrev pub is_of_relaxed : Answer → Bool
-is_of_relaxed (Least basis z y) = false
-is_of_relaxed (Empty basis y) = true
-is_of_relaxed (Ray basis column z d) = false
 
 -- the basis of the program, relaxed as said, gives this answer, with the named column where it is a ray
 pub record GivesAnswer (relaxed : Bool) (column : Option ℕ) (lp : Lp) (basis : List ℕ) (a : Answer) : Type 0 where

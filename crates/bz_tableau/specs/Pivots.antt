@@ -37,6 +37,8 @@ pub record IsPivoted (old : Table) (r e : ℕ) (new : Table) : Type 0 where
   -- of whatever program the old rows were the tableau, the new are
   pub tableau : (s : Equations) → IsTableOf s old.slack old.basis old.rows → IsTableOf s new.slack new.basis new.rows
   -- by a pivot of its equations
-  pub pivot : (s : Equations) → IsTableOf s old.slack old.basis old.rows → IsPivot s (own old.slack old.basis) (number old.rows) r e (number new.rows)
+  pub pivot : (s : Equations) → IsTableOf s old.slack old.basis old.rows
+      → IsPivot s (own old.slack old.basis) (number old.rows) r e (number new.rows)
   -- how each row was made of the old one and the pivot row, with positive multipliers
-  pub made : (s : Equations) → IsTableOf s old.slack old.basis old.rows → (i : ℕ) → i < length old.rows → i ≢ r → Made s (entry (line old.rows i)) (entry (line old.rows r)) e (entry (line new.rows i))
+  pub made : (s : Equations) → IsTableOf s old.slack old.basis old.rows → (i : ℕ) → i < length old.rows → i ≢ r
+      → Made s (entry (line old.rows i)) (entry (line old.rows r)) e (entry (line new.rows i))

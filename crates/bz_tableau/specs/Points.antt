@@ -1,8 +1,8 @@
--- Points and directions of a basis, over the program's own columns. A relaxed program has the column s behind them; its slacks are `slack + i`, by row.
-use Rattle.std.specs.Prelude.{ℕ, ◌+◌, ◌<◌, ◌≡◌, ◌≢◌, ℤ, pos, ◌*ℤ◌, ◌≤ℤ◌, ◌<ℤ◌, unsigned_abs, false}
+-- Points and directions of a basis, over the program's own columns. A relaxed program has the column s after them; its slacks are `slack + i`, by row.
+use Rattle.std.specs.Prelude.{ℕ, ◌+◌, ◌<◌, ◌≡◌, ◌≢◌, ℤ, pos, ◌*ℤ◌, ◌≤ℤ◌, ◌<ℤ◌, Bool, unsigned_abs, false}
 use Rattle.std.specs.Int.{◌∣◌}
 use Rattle.bz_algebra.specs.Sums.{upto}
-use Rattle.bz_algebra.specs.Tableaus.{Equations, side, Program, IsRow, rows_of}
+use Rattle.bz_algebra.specs.Tableaus.{Equations, side, Program, IsRow, rows_of, objective_entry}
 
 -- the column is at none of the basis's places
 abbrev pub IsOutside : Equations → (ℕ → ℕ) → ℕ → Type 0
@@ -12,10 +12,15 @@ IsOutside s basis j = (i : ℕ) → i < s.rows → basis i ≢ j
 abbrev pub terms : Equations → (ℕ → ℤ) → ℕ → ℤ
 terms s z i = upto s.slack (λ j. s.entry i j *ℤ z j)
 
+-- the cost of z; of a relaxed program it is s
+abbrev pub cost_at : Bool → Program → (ℕ → ℤ) → ℤ
+cost_at relaxed p z = upto (rows_of relaxed p).slack (λ j. objective_entry relaxed p j *ℤ z j)
+
 -- ---- the common denominator
 -- d is a multiple of the number that each basic column below the bound has in its row
 abbrev pub IsMultipleOfEntries : Equations → (ℕ → ℕ) → ℕ → ℕ → Type 0
-IsMultipleOfEntries s basis bound d = (i : ℕ) (v : ℕ → ℤ) → i < s.rows → basis i < bound → IsRow s basis i v → unsigned_abs (v (basis i)) ∣ d
+IsMultipleOfEntries s basis bound d = (i : ℕ) (v : ℕ → ℤ) → i < s.rows → basis i < bound → IsRow s basis i v
+    → unsigned_abs (v (basis i)) ∣ d
 
 -- den is the least common multiple of these numbers, 1 where there are none
 pub record IsLeastMultiple (s : Equations) (basis : ℕ → ℕ) (bound : ℕ) (den : ℤ) : Type 0 where
@@ -32,7 +37,13 @@ IsCommonDenominator s basis den = IsLeastMultiple s basis s.slack den
 pub record IsPoint (s : Equations) (basis : ℕ → ℕ) (z : ℕ → ℤ) (den : ℤ) : Type 0 where
   pub denominator : IsCommonDenominator s basis den
   pub outside : (j : ℕ) → j < s.slack → IsOutside s basis j → z j ≡ pos 0
-  pub basic : (i : ℕ) (v : ℕ → ℤ) → i < s.rows → basis i < s.slack → IsRow s basis i v → z (basis i) *ℤ v (basis i) ≡ den *ℤ v (side s)
+  pub basic : (i : ℕ) (v : ℕ → ℤ) → i < s.rows → basis i < s.slack → IsRow s basis i v
+      → z (basis i) *ℤ v (basis i) ≡ den *ℤ v (side s)
+
+-- no right side of the basis is negative, as where its point meets the rows
+abbrev pub HasNoNegativeSide : Bool → Program → (ℕ → ℕ) → Type 0
+HasNoNegativeSide relaxed p basis = (i : ℕ) (v : ℕ → ℤ) → i < p.rows → IsRow (rows_of relaxed p) basis i v
+    → (pos 0) ≤ℤ (v (side (rows_of relaxed p)))
 
 -- z / den meets each row, and no number of it is negative
 pub record MeetsRows (s : Equations) (z : ℕ → ℤ) (den : ℤ) : Type 0 where

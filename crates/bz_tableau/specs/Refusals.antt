@@ -18,9 +18,10 @@ pub record NamesPivot (t : Table) (r e : ℕ) (relaxed : Bool) (basis goal : Lis
 
 abbrev pub IsWidePivot : Table → ℕ → ℕ → WideAt → Type 0
 IsWidePivot t r e (Build row) = ⊥
-IsWidePivot t r e (Pivot relaxed basis goal row pivot_row column) = NamesPivot t r e relaxed basis goal row pivot_row column
-IsWidePivot t r e (Den relaxed basis place) = ⊥
-IsWidePivot t r e (Fold relaxed basis column sum at) = ⊥
+IsWidePivot t r e (Pivot relaxed basis goal row pivot_row column) =
+    NamesPivot t r e relaxed basis goal row pivot_row column
+IsWidePivot t r e (Den relaxed basis at) = ⊥
+IsWidePivot t r e (Fold relaxed basis column list at) = ⊥
 
 -- why the pivot at place r in the column e was refused: a row is wide, or memory was wanting
 abbrev pub IsRefusal : Table → ℕ → ℕ → LpStop → Type 0

@@ -10,14 +10,15 @@ use Rattle.bz_tableau.specs.declared.answers.WideAt.{WideAt}
 use Rattle.bz_tableau.specs.declared.answers.WideAt.TheVariants.{Build, Pivot, Den, Fold}
 use Rattle.bz_tableau.specs.declared.programs.Lp.{Lp}
 use Rattle.bz_tableau.specs.Answers.{IsBasisList}
+use Rattle.bz_tableau.specs.Points.{HasNoNegativeSide}
 use Rattle.bz_tableau.specs.WidePlaces.{IsTrueDen}
 
 -- a basis of the program without a negative right side
 pub record IsPointBasis (relaxed : Bool) (p : Program) (basis : List ℕ) : Type 0 where
   pub is_basis : IsBasisList relaxed p basis
-  pub right_sides : (i : ℕ) (v : ℕ → ℤ) → i < p.rows → IsRow (rows_of relaxed p) (place basis) i v → (pos 0) ≤ℤ (v (side (rows_of relaxed p)))
+  pub right_sides : HasNoNegativeSide relaxed p (place basis)
 
--- v is the row at place i of the basis; the objective row stands at the place behind the program's rows
+-- v is the row at place i of the basis; the objective row stands at the place after the program's rows
 abbrev pub IsRowAt : Bool → Program → List ℕ → ℕ → (ℕ → ℤ) → Type 0
 IsRowAt relaxed p basis i v = IsRow (equations_of relaxed p) (with_factor relaxed p (place basis)) i v
 
@@ -47,7 +48,8 @@ pub record EntersAtGoal (relaxed : Bool) (p : Program) (basis goal : List ℕ) (
   pub at_goal : basis ≡ goal
   pub falls : (v : ℕ → ℤ) → IsRowAt relaxed p basis p.rows v → (v column) <ℤ (pos 0)
   pub positive : (v : ℕ → ℤ) → IsRowAt relaxed p basis pivot_row v → (pos 0) <ℤ (v column)
-  pub least : (i : ℕ) (v w : ℕ → ℤ) → i < p.rows → IsRowAt relaxed p basis i v → IsRowAt relaxed p basis pivot_row w → (pos 0) <ℤ (v column)
+  pub least : (i : ℕ) (v w : ℕ → ℤ) → i < p.rows → IsRowAt relaxed p basis i v → IsRowAt relaxed p basis pivot_row w
+      → (pos 0) <ℤ (v column)
       → (w (side (equations_of relaxed p)) *ℤ v column) ≤ℤ (v (side (equations_of relaxed p)) *ℤ w column)
 
 -- from the goal, the column s leaves, whose row has the right side 0
@@ -73,12 +75,16 @@ pub record IsTruePivot (relaxed : Bool) (p : Program) (basis goal : List ℕ) (r
   pub goal_is : IsPointBasis relaxed p goal
   pub column_inside : column < side (rows_of relaxed p)
   pub wide : IsWideClearing relaxed p basis row pivot_row column
-  pub kind : EntersAtGoal relaxed p basis goal pivot_row column ⊎ (LeavesWithZero relaxed p basis goal pivot_row ⊎ GoesToGoal relaxed p basis goal column)
+  pub kind : EntersAtGoal relaxed p basis goal pivot_row column
+      ⊎ (LeavesWithZero relaxed p basis goal pivot_row ⊎ GoesToGoal relaxed p basis goal column)
 
--- the place is wide, and a solution of the program may come there
+-- The place is wide, and a solution of the program may come there. It comes to no `Build`, since its right sides are
+-- given, and to no `Fold`, since it makes no sums of its answer: these are told by who builds a program and who uses an
+-- answer.
 abbrev pub IsTrueWide : Lp → WideAt → Type 0
 IsTrueWide lp (Build row) = ⊥
-IsTrueWide lp (Pivot relaxed basis goal row pivot_row column) = IsTruePivot relaxed (program_of lp) basis goal row pivot_row column
+IsTrueWide lp (Pivot relaxed basis goal row pivot_row column) =
+    IsTruePivot relaxed (program_of lp) basis goal row pivot_row column
 IsTrueWide lp (Den relaxed basis at) = IsTrueDen relaxed (program_of lp) basis at
 IsTrueWide lp (Fold relaxed basis column list at) = ⊥
 

@@ -1,4 +1,4 @@
--- Tableaus as lists: a row of numbers for each row of the program, and the objective row behind them.
+-- Tableaus as lists: a row of numbers for each row of the program, and the objective row after them.
 --
 -- The columns of a row, by number: the program's own columns, s where it is relaxed, the slacks, the factor column, the right side. The factor column has how often a row takes the cost: d in the objective row, 0 in the others.
 use Rattle.std.specs.Prelude.{ℕ, suc, ◌+◌, ◌<◌, ◌^◌, ◌≡◌, ◌==◌, if◌then◌else◌, ℤ, Bool, List, [], length, slice_index_or}
@@ -53,6 +53,6 @@ pub record IsTableauOf (relaxed : Bool) (lp : Lp) (t : Table) : Type 0 where
 abbrev pub factor_column : Table → ℕ
 factor_column t = t.slack + length t.basis
 
--- the number that `entry` shows: callers count the right side as the column behind the slacks
+-- the number that `entry` shows: callers count the right side as the column after the slacks
 abbrev pub shown : Table → ℕ → ℕ → ℤ
 shown t i j = number t.rows i (if j == factor_column t then suc j else j)

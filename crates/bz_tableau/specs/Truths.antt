@@ -1,17 +1,12 @@
 -- What an answer says of all the points of its program, in words that know no basis.
-use Rattle.std.specs.Prelude.{ℕ, ℤ, pos, ◌*ℤ◌, ◌≤ℤ◌, ◌<ℤ◌, Bool, true, false}
-use Rattle.bz_algebra.specs.Sums.{upto}
-use Rattle.bz_algebra.specs.Tableaus.{Program, rows_of, objective_entry}
-use Rattle.bz_tableau.specs.Points.{MeetsRows}
+use Rattle.std.specs.Prelude.{ℕ, ℤ, pos, ◌+ℤ◌, ◌*ℤ◌, ◌≤ℤ◌, ◌<ℤ◌, Bool, true, false}
+use Rattle.bz_algebra.specs.Tableaus.{Program, rows_of}
+use Rattle.bz_tableau.specs.Points.{MeetsRows, cost_at}
 
 -- x / den is a point of the program, relaxed as said: each row holds, and no number is negative
 pub record IsPointOf (relaxed : Bool) (p : Program) (x : ℕ → ℤ) (den : ℤ) : Type 0 where
   pub positive : (pos 0) <ℤ den
   pub meets : MeetsRows (rows_of relaxed p) x den
-
--- the cost of x; of a relaxed program it is s
-abbrev pub cost_at : Bool → Program → (ℕ → ℤ) → ℤ
-cost_at relaxed p x = upto (rows_of relaxed p).slack (λ j. objective_entry relaxed p j *ℤ x j)
 
 -- z / den is a point, and no point costs less
 pub record CostsLeast (relaxed : Bool) (p : Program) (z : ℕ → ℤ) (den : ℤ) : Type 0 where
@@ -27,6 +22,11 @@ pub record HasLeastS (p : Program) (z : ℕ → ℤ) (den : ℤ) : Type 0 where
 abbrev pub HasNoPoint : Program → Type 0
 HasNoPoint p = (x : ℕ → ℤ) (q : ℤ) → IsPointOf false p x q → ⊥
 
--- whatever the number, some point costs less
-abbrev pub CostsBelowAll : Program → Type 0
-CostsBelowAll p = (n : ℤ) → (x : ℕ → ℤ) × (q : ℤ) × IsPointOf false p x q × ((cost_at false p x) <ℤ (n *ℤ q))
+-- z + k d
+abbrev pub along : (ℕ → ℤ) → (ℕ → ℤ) → ℤ → ℕ → ℤ
+along z d k j = z j +ℤ (k *ℤ d j)
+
+-- (z + k d) / den is a point for every k that isn't negative, and whatever the number n, one of these points costs less
+pub record FallsBelowAll (p : Program) (z : ℕ → ℤ) (den : ℤ) (d : ℕ → ℤ) : Type 0 where
+  pub points : (k : ℤ) → (pos 0) ≤ℤ k → IsPointOf false p (along z d k) den
+  pub costs : (n : ℤ) → (k : ℤ) × ((pos 0) ≤ℤ k) × ((cost_at false p (along z d k)) <ℤ (n *ℤ den))

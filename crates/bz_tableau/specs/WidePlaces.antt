@@ -1,10 +1,10 @@
 -- Where the numbers of a basis's answer go wide: its common denominator, its point, and the direction of a ray.
-use Rattle.std.specs.Prelude.{ℕ, suc, ◌<◌, ◌≡◌, ◌⊎◌, ℤ, pos, ◌*ℤ◌, ◌≤ℤ◌, Bool, false, List, length, slice_index_or}
+use Rattle.std.specs.Prelude.{ℕ, suc, ◌<◌, ◌≡◌, ◌⊎◌, ℤ, ◌*ℤ◌, Bool, false, List, length}
 use Rattle.bz_algebra.specs.Numbers.{IsNarrow, IsWide}
 use Rattle.bz_algebra.specs.Tableaus.{Equations, side, Program, IsRow, IsObjectiveRow, rows_of}
 use Rattle.bz_tableau.specs.Answers.{IsBasisList, AreMultipliersFor}
 use Rattle.bz_tableau.specs.Laws.{place}
-use Rattle.bz_tableau.specs.Points.{IsLeastMultiple, IsCommonDenominator, MakesRay}
+use Rattle.bz_tableau.specs.Points.{IsLeastMultiple, IsCommonDenominator, HasNoNegativeSide, MakesRay}
 
 -- ---- the signs of an answer
 -- the objective row's multipliers aren't negative, nor are its terms
@@ -22,7 +22,7 @@ pub record IsRayAlong (relaxed : Bool) (p : Program) (basis : ℕ → ℕ) (colu
 -- no right side is negative, and the objective row isn't or some column makes the basis a ray: these are the bases that have an answer, whose numbers may be wide
 pub record HasAnswerSigns (relaxed : Bool) (p : Program) (basis : List ℕ) : Type 0 where
   pub is_basis : IsBasisList relaxed p basis
-  pub right_sides : (i : ℕ) (v : ℕ → ℤ) → i < p.rows → IsRow (rows_of relaxed p) (place basis) i v → (pos 0) ≤ℤ (v (side (rows_of relaxed p)))
+  pub right_sides : HasNoNegativeSide relaxed p (place basis)
   pub signs : HasLeastSigns relaxed p (place basis) ⊎ ((column : ℕ) × IsRayAlong relaxed p (place basis) column)
 
 -- ---- wide numbers
@@ -54,16 +54,13 @@ pub record IsWidePlace (s : Equations) (Rises : ℕ → Type 0) (basis : ℕ →
   pub wide : IsWideMultiple s basis i ⊎ IsWideValue s Rises basis i
 
 -- ---- places by number
--- the place at number k of the order
-abbrev pub at_number : List ℕ → ℕ → ℕ
-at_number order k = slice_index_or order k 0
-
 -- the places below rows whose columns are before the slacks, in the rising order of the columns
 pub record IsRisingOrder (rows slack : ℕ) (basis : ℕ → ℕ) (order : List ℕ) : Type 0 where
-  pub inside : (k : ℕ) → k < length order → at_number order k < rows
-  pub before_slacks : (k : ℕ) → k < length order → basis (at_number order k) < slack
-  pub rising : (k l : ℕ) → k < l → l < length order → basis (at_number order k) < basis (at_number order l)
-  pub complete : (i : ℕ) → i < rows → basis i < slack → (k : ℕ) × (k < length order) × (basis (at_number order k) ≡ basis i)
+  pub inside : (k : ℕ) → k < length order → place order k < rows
+  pub before_slacks : (k : ℕ) → k < length order → basis (place order k) < slack
+  pub rising : (k l : ℕ) → k < l → l < length order → basis (place order k) < basis (place order l)
+  pub complete : (i : ℕ) → i < rows → basis i < slack
+      → (k : ℕ) × (k < length order) × (basis (place order k) ≡ basis i)
 
 -- the basis has an answer, and at the column of this number of the rising order, counted from 0, a number of its point goes wide, or one of the direction of a ray
 pub record IsTrueDen (relaxed : Bool) (p : Program) (basis : List ℕ) (at : ℕ) : Type 0 where
@@ -71,4 +68,4 @@ pub record IsTrueDen (relaxed : Bool) (p : Program) (basis : List ℕ) (at : ℕ
   pub order : List ℕ
   pub is_order : IsRisingOrder p.rows (rows_of relaxed p).slack (place basis) order
   pub inside : at < length order
-  pub wide : IsWidePlace (rows_of relaxed p) (IsRayAlong relaxed p (place basis)) (place basis) (at_number order at)
+  pub wide : IsWidePlace (rows_of relaxed p) (IsRayAlong relaxed p (place basis)) (place basis) (place order at)

@@ -43,7 +43,7 @@ pub enum WideAt {
         row: u32,
     },
     /// The row `row` of `basis` after the pivot at the place `pivot_row` in the column `column`, on the way to `goal`.
-    /// The objective row is the one behind the program's rows.
+    /// The objective row is the one after the program's rows.
     Pivot {
         relaxed: bool,
         basis: Items<u32>,
@@ -59,12 +59,16 @@ pub enum WideAt {
         basis: Items<u32>,
         place: u32,
     },
-    /// A sum that is made of the answer of the basis.
+    /// A sum that is made of the answer of a basis: its sums stand in numbered lists.
     Fold {
+        /// Whether the basis is one of the relaxed program.
         relaxed: bool,
         basis: Items<u32>,
+        /// The column along which the cost falls, where the answer is a ray.
         column: Option<u32>,
+        /// The list of the sum, by its number.
         list: u32,
+        /// The place of the sum in its list.
         at: u32,
     },
 }

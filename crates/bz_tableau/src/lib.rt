@@ -1,4 +1,8 @@
 //! Linear programs in whole numbers, and the exact tableaus of their bases.
+//!
+//! What is told of them is defined here too: what a program comes to and which basis shows it (`specs/Answers.antt`),
+//! what that says of all points (`specs/Truths.antt`), and where numbers go wide, at a pivot (`specs/Stops.antt`) or in
+//! an answer (`specs/WidePlaces.antt`). `bz_lex` finds them.
 #![tactic(auto)]
 
 mod answers;

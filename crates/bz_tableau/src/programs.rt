@@ -11,7 +11,7 @@ pub struct LpRow {
     pub ghost rhs_narrow: { IsNarrow rhs },
 }
 
-/// Minimise `cost z` over `z >= 0` with `terms z <= rhs` in each row. A relaxed one has a further column s behind its
+/// Minimise `cost z` over `z >= 0` with `terms z <= rhs` in each row. A relaxed one has a further column s after its
 /// own: minimise s with `terms z - s <= rhs` in each row and `s >= 0`.
 #[derive(Drop)]
 pub struct Lp {

@@ -18,7 +18,7 @@ use std::alloc::{AllocError, Global};
 use std::marker::Model;
 
 /// The tableau of a basis of a program: for each row of the program the combination of its rows that is positive in
-/// the row's own basic column, 0 in the other basic columns, and without a common divisor; and behind them the
+/// the row's own basic column, 0 in the other basic columns, and without a common divisor; and after them the
 /// objective row.
 ///
 /// The columns, by number, are the program's own, s where it is relaxed, and a slack for each row.
@@ -68,7 +68,7 @@ impl Tableau {
         self.basis.as_slice()
     }
 
-    /// How many rows the program has; the objective row is the one behind them. It takes no memory.
+    /// How many rows the program has; the objective row is the one after them. It takes no memory.
     pub fn rows(&self) -> u32
         ensures { result ≡ length self.now.basis }
     {
@@ -90,7 +90,7 @@ impl Tableau {
         self.slack + self.rows()
     }
 
-    /// The number of a row in a column; the row behind the program's is the objective row, and the column behind the
+    /// The number of a row in a column; the row after the program's is the objective row, and the column after the
     /// last is the right side. It takes no memory.
     pub fn entry(&self, row: u32, column: u32) -> i128
         requires row { row ≤ length self.now.basis }

@@ -12,7 +12,7 @@ use std::test::Fail;
 
 const HALF: i128 = 85070591730234615865843651857942052864; // 2^126
 
-/// A pivot, and what the tableau shows behind it: its numbers row by row, the right side last.
+/// A pivot, and what the tableau shows after it: its numbers row by row, the right side last.
 #[derive(Drop)]
 struct Step<'a> {
     row: u32,
