@@ -6,7 +6,8 @@ ghost use Rattle.bz_algebra.specs.Numbers.{IsNarrow};
 ghost use Rattle.bz_model.specs.Worked.{AreWorkedColumns};
 ghost use Rattle.bz_cut.specs.Worked.{AreLinked};
 
-use crate::{Cut, CutFault, fits_and_valid, judge, judge_at_most, judge_cut, judge_sum};
+use crate::{Cut, CutFault, fits_and_valid, judge_at_most, judge_cut, judge_sum};
+use bz_first::judge;
 use bz_model::{Column, Model, Row, Split};
 use bz_num::{Frac, Items, Name, OutOfMemory, SparseRow, fold};
 use std::alloc::Global;
