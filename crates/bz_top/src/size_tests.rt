@@ -28,43 +28,67 @@ fn wide_certificate(alloc: Global, count: usize) -> Result<String, AllocError> {
 const MAXIMISED: &str =
     "NAME ONE\nOBJSENSE\n MAX\nROWS\n N COST\n G LINK\nCOLUMNS\n M1 'MARKER' 'INTORG'\n x COST -1 LINK 1\n M2 'MARKER' 'INTEND'\n y COST -2 LINK 1\nRHS\n RHS LINK 1 COST -3\nBOUNDS\n UP BND x 1\nENDATA\n";
 
-#[test]
-fn ends_at_other_sizes_and_senses(rt: HostRuntime) -> Result<(), Fail> {
-    let alloc = rt.alloc();
-    let wide = wide_model(alloc, 499)?;
-    let wide_cert = wide_certificate(alloc, 499)?;
-    let check: &[&str] = &["check", "m", "p", "c"];
-    let split: &[&str] = &["split", "m", "p"];
-    let all: [(&[&str], &str, &str, &str); 4] = [
-        (
-            check,
-            wide.as_str(),
-            wide_cert.as_str(),
-            "certificate holds: optimal 1\n",
-        ),
-        (
-            split,
-            wide.as_str(),
-            CERT,
-            "part 0 columns 1 rows 0 inequalities 2\npart 1 columns 499 rows 1 inequalities 500\n",
-        ),
-        (check, MAXIMISED, CERT, "certificate holds: optimal 2\n"),
-        (
-            split,
-            MAXIMISED,
-            CERT,
-            "part 0 columns 1 rows 0 inequalities 2\npart 1 columns 1 rows 1 inequalities 2\n",
-        ),
-    ];
-    for (words, model, cert, text) in all {
-        let case = Case {
-            model,
-            cert,
-            ..FIRST
-        };
-        let (ended, printed) = ends(alloc, words, &case)?;
-        assert_eq!(rt; printed.as_slice(), text.as_bytes());
-        assert_eq!(rt; ended, Status::Done);
+const TWO_PARTS: &str =
+    "part 0 columns 1 rows 0 inequalities 2\npart 1 columns 1 rows 1 inequalities 2\n";
+
+const WIDE_PARTS: &str =
+    "part 0 columns 1 rows 0 inequalities 2\npart 1 columns 499 rows 1 inequalities 500\n";
+
+/// That the check of a case and its split print these.
+fn prints(alloc: Global, case: &Case, checked: &str, parts: &str) -> Result<bool, AllocError> {
+    let (ended, printed) = ends(alloc, &["check", "m", "p", "c"], case)?;
+    let checks = ended == Status::Done && printed.as_slice() == checked.as_bytes();
+    let (ended, printed) = ends(alloc, &["split", "m", "p"], case)?;
+    Ok(checks && ended == Status::Done && printed.as_slice() == parts.as_bytes())
+}
+
+/// A model and a certificate, as texts.
+#[derive(Drop)]
+struct Texts {
+    model: String,
+    cert: String,
+}
+
+/// The case of these texts, with the smallest model's partition.
+fn case_of(texts: &Texts) -> Case<'_> {
+    Case {
+        model: texts.model.as_str(),
+        cert: texts.cert.as_str(),
+        ..FIRST
     }
+}
+
+#[test]
+fn checks_and_splits_500_columns(rt: HostRuntime) -> Result<(), Fail> {
+    let texts = Texts {
+        model: wide_model(rt.alloc(), 499)?,
+        cert: wide_certificate(rt.alloc(), 499)?,
+    };
+    let case = case_of(&texts);
+    assert!(rt;
+        prints(
+            rt.alloc(),
+            &case,
+            "certificate holds: optimal 1\n",
+            WIDE_PARTS
+        )?
+    );
+    Ok(())
+}
+
+#[test]
+fn checks_and_splits_a_maximised_model(rt: HostRuntime) -> Result<(), Fail> {
+    let case = Case {
+        model: MAXIMISED,
+        ..FIRST
+    };
+    assert!(rt;
+        prints(
+            rt.alloc(),
+            &case,
+            "certificate holds: optimal 2\n",
+            TWO_PARTS
+        )?
+    );
     Ok(())
 }
