@@ -13,6 +13,10 @@ row_pairs row x = pairs_at row (coordinate x)
 abbrev pub times_one : ℤ → ℤ × ℤ
 times_one e = (pos 1, e)
 
+-- the sum of an inequality in the master times a block's `times`, and then its sum in the block
+abbrev pub joined_pairs : ℤ → ℤ → ℤ → List (ℤ × ℤ)
+joined_pairs times in_master in_block = (times, in_master) ∷ times_one in_block ∷ []
+
 -- the cost at the master's point, and then the etas
 abbrev pub value_pairs : List (ℕ × ℤ) → Master → List (ℤ × ℤ)
 value_pairs cost master = row_pairs cost master.x ++ map times_one master.eta
