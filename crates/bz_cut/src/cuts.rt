@@ -2,9 +2,8 @@
 ghost use Rattle.std.specs.Prelude.{◌≡◌, ◌↔◌, ◌<◌, ◌≤◌, ◌*ℤ◌, ◌++◌, ◌∷◌, [], IsTrue, length};
 ghost use Rattle.bz_algebra.specs.Numbers.{IsNarrow};
 ghost use Rattle.bz_model.specs.Parting.{blocks_of, inequalities_of, width_of};
-ghost use Rattle.bz_cut.specs.Cuts.{IsValid};
 ghost use Rattle.bz_cut.specs.CutTests.{HasPlaces, cut_tests, form_tests, master_equations, master_tests, own_equations, own_tests, rhs_tests, sum_tests};
-ghost use Rattle.bz_cut.specs.Fits.{FitsCut};
+ghost use Rattle.bz_cut.specs.Fits.{IsValidAndFits};
 ghost use Rattle.bz_cut.specs.Rows.{AreMultipliers};
 ghost use Rattle.bz_first.specs.Tests.{Judges};
 
@@ -141,7 +140,7 @@ pub fn judge_cut(split: &Split, cut: &Cut) -> Result<(), CutFault>
 
 /// Whether the cut is valid, and no sum or product is wide that tells so. It takes no memory.
 pub fn fits_and_valid(split: &Split, cut: &Cut) -> bool
-    ensures { IsTrue result ↔ (IsValid split.now.model split.now.part cut.now × FitsCut split.now.model split.now.part cut.now) }
+    ensures { IsTrue result ↔ IsValidAndFits split.now.model split.now.part cut.now }
 {
     judge_cut(split, cut).is_ok()
 }

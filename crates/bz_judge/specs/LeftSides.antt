@@ -24,5 +24,6 @@ abbrev pub left_side_tests : CheckFault → Master → BlockPart → Ineq → Li
 left_side_tests wide master block i =
     test wide (IsNarrowSum (row_pairs i.master master.x))
     ∷ test wide (IsNarrowSum (row_pairs i.own block.y))
-    ∷ test wide (IsNarrowSum (joined_pairs block.times (dot i.master (coordinate master.x)) (dot i.own (coordinate block.y))))
+    ∷ test wide
+    (IsNarrowSum (joined_pairs block.times (dot i.master (coordinate master.x)) (dot i.own (coordinate block.y))))
     ∷ []

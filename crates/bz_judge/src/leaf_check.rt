@@ -39,7 +39,8 @@ impl PlaceTests<CheckFault> for Positions<'_> {
         × AreMultipliers (length (sides_in t.sides.now)) t.leaf.now.lambda
         × (position < width_of t.split.now.part 0) };
 
-    ghost tests = { λ t. leaf_master_tests t.split.now.model t.split.now.part (sides_in t.sides.now) t.node t.leaf.now };
+    ghost tests = { λ t.
+        leaf_master_tests t.split.now.model t.split.now.part (sides_in t.sides.now) t.node t.leaf.now };
 
     fn judge_at(&self, position: u32) -> Result<(), CheckFault> {
         let leaf = self.leaf;

@@ -7,7 +7,7 @@ ghost use Rattle.bz_model.specs.Parting.{inner_cost};
 ghost use Rattle.bz_model.specs.Points.{coordinate};
 ghost use Rattle.bz_first.specs.Tests.{Judges, each_of, test};
 ghost use Rattle.bz_model.specs.Rays.{RowAllows};
-ghost use Rattle.bz_judge.specs.RayTests.{ray_bound_tests, ray_cost_tests, ray_integer_tests, ray_row_tests, ray_tests};
+ghost use Rattle.bz_judge.specs.RayTests.{KeepsBounds, ray_bound_tests, ray_cost_tests, ray_integer_tests, ray_row_tests, ray_tests};
 ghost use Rattle.bz_model.specs.PointSums.{row_pairs};
 
 use crate::faults::{CheckFault, RAY_SUMS, wide_in};
@@ -61,7 +61,7 @@ fn row_allows(row: &Row, step: i128) -> bool
 
 /// Whether a step keeps the column's bounds.
 fn column_allows(column: &Column, step: i128) -> bool
-    ensures { IsTrue result ↔ (IfSome column.now.lower (λ f. pos 0 ≤ℤ step) × IfSome column.now.upper (λ f. step ≤ℤ pos 0)) }
+    ensures { IsTrue result ↔ KeepsBounds column.now step }
 {
     is_free(column.lower.is_some(), column.upper.is_some(), step)
 }
