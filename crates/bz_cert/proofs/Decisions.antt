@@ -1,9 +1,8 @@
 -- What is decided of the numbers of a line: whether they are as many as its word asks for, and in order.
-use Rattle.std.proofs.Common.{◌≡◌, ◌∷◌, ◌++◌, ◌∙◌, [], ℕ, suc, ◌+◌, ◌<◌, ◌≤◌, ◌^◌, ◌⊎◌, inl, inr, ℤ, pos, negsuc, List, Bool, true, false, length, drop, ap, sym, refl, subst, arith, append-nil, bytes_eq}
+use Rattle.std.proofs.Common.{◌≡◌, ◌∷◌, ◌++◌, ◌∙◌, [], ℕ, suc, ◌+◌, ◌<◌, ◌≤◌, ◌^◌, inl, inr, ℤ, pos, negsuc, List, Bool, true, false, length, drop, ap, sym, refl, subst, arith, append-nil, bytes_eq}
 use Rattle.std.specs.Bool.{Decides}
 use Rattle.std.specs.Int.RustNames.{unsigned_abs}
-use Rattle.std.specs.List.{AllByRecursion}
-use Rattle.std.proofs.lemmas.Bool.{cases_eq, cases_lt}
+use Rattle.std.proofs.lemmas.Bool.{cases_eq}
 use Rattle.std.proofs.lemmas.Slice.Eq.{bytes_eq-Decides}
 use Rattle.bz_algebra.specs.Numbers.{IsNarrow}
 use Rattle.bz_cut.proofs.CutDecided.{narrow_told}
