@@ -76,6 +76,40 @@ fn bytes_pass_through_a_file(rt: HostRuntime) -> Result<(), Fail> {
     Ok(())
 }
 
+#[test]
+fn a_file_of_the_limit_is_read_and_none_above(rt: HostRuntime) -> Result<(), Fail> {
+    let alloc = rt.alloc();
+    let path = format!(in alloc; "/tmp/bz_io-limit-{}", process::id(rt.process()))?;
+    let mut desk = HostDesk::new(&rt);
+    for size in [0, 1, 4095, 4096, 4097, 8192] {
+        let text = "x".repeat(alloc, size)?;
+        desk.save(path.as_str(), text.as_bytes())?;
+        let whole = desk.load(alloc, path.as_str(), size);
+        let within = size
+            .checked_sub(1)
+            .map(|limit| desk.load(alloc, path.as_str(), limit));
+        fs::remove_file(&rt, path.as_str())?;
+        assert_eq!(rt; whole?.as_slice(), text.as_bytes());
+        if let Some(refused) = within {
+            assert!(rt; refused.err() == Some(LoadError::TooLong));
+        }
+    }
+    Ok(())
+}
+
+#[test]
+fn a_save_that_can_not_be_made_or_written_fails(rt: HostRuntime) -> Result<(), Fail> {
+    let mut desk = HostDesk::new(&rt);
+    for path in ["/tmp/bz_io-none/file", "/tmp", "/dev/full"] {
+        assert!(rt;
+            desk.save(path, b"value 1 1\n") == Err(SaveError::Failed),
+            "{path}"
+        );
+    }
+    desk.save("/dev/full", b"")?;
+    Ok(())
+}
+
 /// Takes two bytes at a time, and keeps the last eight as the digits of a number.
 #[derive(Drop)]
 struct Recorder {
