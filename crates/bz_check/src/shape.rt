@@ -1,7 +1,7 @@
 //! Whether the lists of a certificate's point fit the split.
-ghost use Rattle.std.specs.Prelude.{◌≡◌, ◌↔◌, ◌≤◌, pos, ◌<ℤ◌, [], ◌∷◌, IsTrue, length};
+ghost use Rattle.std.specs.Prelude.{◌≡◌, ◌↔◌, ◌≤◌, [], ◌∷◌, IsTrue, length};
 ghost use Rattle.std.specs.List.{AllByRecursion, enumerate_from};
-ghost use Rattle.bz_model.specs.Parting.{blocks_of, width_of};
+ghost use Rattle.bz_model.specs.Parting.{blocks_of};
 ghost use Rattle.bz_first.specs.Tests.{Judges, test};
 ghost use Rattle.bz_model.specs.PartPoints.{HasBlockShape, HasMasterShape, HasPointShape, HasShape};
 ghost use Rattle.bz_check.specs.CheckTests.{HasRayShape};
