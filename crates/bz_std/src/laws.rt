@@ -1,0 +1,8 @@
+//! What is proved of rows and a cost.
+ghost use Rattle.bz_std.specs.Laws.{ExactlyOneEnd};
+
+/// For any rows and any cost there is a direction along which no row rises and the cost falls, or there are multipliers
+/// that balance the cost; and never both.
+pub fn exactly_one_end()
+    ensures { ExactlyOneEnd }
+{}
