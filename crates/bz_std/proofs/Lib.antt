@@ -1,1 +1,2 @@
 pub mod Farkas
+pub mod SparseFarkas

@@ -1,6 +1,9 @@
 -- What is proved of rows and a cost.
-use Rattle.std.specs.Prelude.{ℕ, ℤ, ◌⊎◌}
+use Rattle.std.specs.Prelude.{ℕ, ℤ, ◌⊎◌, List}
+use Rattle.std.specs.List.{AllByRecursion}
+use Rattle.bz_algebra.specs.Sums.{AllBelow}
 use Rattle.bz_std.specs.Falls.{HasFall, HasBalance}
+use Rattle.bz_std.specs.SparseFalls.{HasFallOf, HasBalanceOf}
 
 -- Any rows and any cost have a direction along which the cost falls and no row rises, or multipliers that balance them;
 -- and never both.
@@ -9,3 +12,12 @@ pub record ExactlyOneEnd : Type 0 where
       HasFall columns rows term cost ⊎ HasBalance columns rows term cost
   pub not_both : (columns rows : ℕ) (term : ℕ → ℕ → ℤ) (cost : ℕ → ℤ) →
       HasFall columns rows term cost → ¬ HasBalance columns rows term cost
+
+-- The same of rows and a cost that are lists with indexes of columns.
+pub record SparseExactlyOneEnd : Type 0 where
+  pub either : (columns : ℕ) (rows : List (List (ℕ × ℤ))) (cost : List (ℕ × ℤ)) →
+      AllByRecursion (AllBelow columns) rows → AllBelow columns cost →
+      HasFallOf rows cost ⊎ HasBalanceOf columns rows cost
+  pub not_both : (columns : ℕ) (rows : List (List (ℕ × ℤ))) (cost : List (ℕ × ℤ)) →
+      AllByRecursion (AllBelow columns) rows → AllBelow columns cost →
+      HasFallOf rows cost → ¬ HasBalanceOf columns rows cost

@@ -5,4 +5,4 @@
 
 mod laws;
 
-pub use laws::exactly_one_end;
+pub use laws::{exactly_one_end, sparse_exactly_one_end};
