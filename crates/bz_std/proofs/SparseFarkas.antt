@@ -8,9 +8,10 @@ use Rattle.bz_algebra.specs.Sums.{dot, coef, upto, AllBelow}
 use Rattle.bz_algebra.specs.Systems.{ArePositive}
 use Rattle.bz_algebra.proofs.Ring.{add_zero, le_antisym, zero_mul}
 use Rattle.bz_algebra.proofs.SumLemmas.{coef_cons, dot_all, dot_append, single, single_at, single_off}
-use Rattle.bz_std.specs.Falls.{HasFall, HasBalance}
-use Rattle.bz_std.specs.SparseFalls.{row_at, HasFallOf, HasBalanceOf}
+use Rattle.bz_std.specs.Falls.{IsFall, HasBalance, IsPrimitive}
+use Rattle.bz_std.specs.SparseFalls.{row_at, IsFallOf, HasFallOf, HasBalanceOf}
 use Rattle.bz_std.proofs.Farkas as dense
+use Rattle.bz_std.proofs.PrimitiveFalls as primitive
 
 -- ---- each row of a list
 each_row : (P : List (ℕ × ℤ) → Type 0) (rows : List (List (ℕ × ℤ))) → AllByRecursion P rows → (i : ℕ) → i < length rows → P (row_at rows i)
@@ -68,23 +69,17 @@ coef_nonnegative m [] h i = omega (arith, ints)
 coef_nonnegative m (e ∷ es) h i = rw (coef_cons e es i) (omega (arith, ints, single_nonnegative e.0 e.1 h.1 i, coef_nonnegative m es h.2 i))
 
 -- ---- the two ends
-fall : (n : ℕ) (rows : List (List (ℕ × ℤ))) (cost : List (ℕ × ℤ)) → AllByRecursion (AllBelow n) rows → AllBelow n cost → HasFall n (length rows) (λ i. coef (row_at rows i)) (coef cost) → HasFallOf rows cost
-fall n rows cost r c f = (
-  f.0,
-  record {
-    rows_hold = all_rows (λ row. (dot row f.0) ≤ℤ (pos 0)) rows (λ i b. rw (row_sum n rows f.0 r i b) (f.1.rows_hold i b));
-    cost_falls = rw (dot_all n cost f.0 c) f.1.cost_falls;
-  },
-)
+fall : (n : ℕ) (rows : List (List (ℕ × ℤ))) (cost : List (ℕ × ℤ)) (d : ℕ → ℤ) → AllByRecursion (AllBelow n) rows → AllBelow n cost → IsFall n (length rows) (λ i. coef (row_at rows i)) (coef cost) d → IsFallOf rows cost d
+fall n rows cost d r c f = record {
+  rows_hold = all_rows (λ row. (dot row d) ≤ℤ (pos 0)) rows (λ i b. rw (row_sum n rows d r i b) (f.rows_hold i b));
+  cost_falls = rw (dot_all n cost d c) f.cost_falls;
+}
 
-dense_fall : (n : ℕ) (rows : List (List (ℕ × ℤ))) (cost : List (ℕ × ℤ)) → AllByRecursion (AllBelow n) rows → AllBelow n cost → HasFallOf rows cost → HasFall n (length rows) (λ i. coef (row_at rows i)) (coef cost)
-dense_fall n rows cost r c f = (
-  f.0,
-  record {
-    rows_hold = λ i b. rw (← row_sum n rows f.0 r i b) (each_row (λ row. (dot row f.0) ≤ℤ (pos 0)) rows f.1.rows_hold i b);
-    cost_falls = rw (← dot_all n cost f.0 c) f.1.cost_falls;
-  },
-)
+dense_fall : (n : ℕ) (rows : List (List (ℕ × ℤ))) (cost : List (ℕ × ℤ)) (d : ℕ → ℤ) → AllByRecursion (AllBelow n) rows → AllBelow n cost → IsFallOf rows cost d → IsFall n (length rows) (λ i. coef (row_at rows i)) (coef cost) d
+dense_fall n rows cost d r c f = record {
+  rows_hold = λ i b. rw (← row_sum n rows d r i b) (each_row (λ row. (dot row d) ≤ℤ (pos 0)) rows f.rows_hold i b);
+  cost_falls = rw (← dot_all n cost d c) f.cost_falls;
+}
 
 balance : (n : ℕ) (rows : List (List (ℕ × ℤ))) (cost : List (ℕ × ℤ)) → HasBalance n (length rows) (λ i. coef (row_at rows i)) (coef cost) → HasBalanceOf n rows cost
 balance n rows cost b = let e = entries (length rows) b.0 b.2.multipliers in (
@@ -109,7 +104,15 @@ dense_balance n rows cost b = (
 )
 
 pub fall_or_balance : (n : ℕ) (rows : List (List (ℕ × ℤ))) (cost : List (ℕ × ℤ)) → AllByRecursion (AllBelow n) rows → AllBelow n cost → HasFallOf rows cost ⊎ HasBalanceOf n rows cost
-fall_or_balance n rows cost r c = elim (dense.fall_or_balance n (length rows) (λ i. coef (row_at rows i)) (coef cost)) [ inl f ↦ inl (fall n rows cost r c f) | inr b ↦ inr (balance n rows cost b) ]
+fall_or_balance n rows cost r c = elim (dense.fall_or_balance n (length rows) (λ i. coef (row_at rows i)) (coef cost)) [
+  | inl f ↦ inl (f.0, fall n rows cost f.0 r c f.1)
+  | inr b ↦ inr (balance n rows cost b)
+]
 
 pub not_both : (n : ℕ) (rows : List (List (ℕ × ℤ))) (cost : List (ℕ × ℤ)) → AllByRecursion (AllBelow n) rows → AllBelow n cost → HasFallOf rows cost → HasBalanceOf n rows cost → ⊥
-not_both n rows cost r c f b = dense.not_both n (length rows) (λ i. coef (row_at rows i)) (coef cost) (dense_fall n rows cost r c f) (dense_balance n rows cost b)
+not_both n rows cost r c f b = dense.not_both n (length rows) (λ i. coef (row_at rows i)) (coef cost) (f.0, dense_fall n rows cost f.0 r c f.1) (dense_balance n rows cost b)
+
+pub primitive_fall : (n : ℕ) (rows : List (List (ℕ × ℤ))) (cost : List (ℕ × ℤ)) → AllByRecursion (AllBelow n) rows → AllBelow n cost → HasFallOf rows cost → (d : ℕ → ℤ) × IsFallOf rows cost d × IsPrimitive n d
+primitive_fall n rows cost r c f =
+    let p = primitive.primitive_fall n (length rows) (λ i. coef (row_at rows i)) (coef cost) (f.0, dense_fall n rows cost f.0 r c f.1) in
+    (p.0, fall n rows cost p.0 r c p.1, p.2)

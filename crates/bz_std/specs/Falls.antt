@@ -1,5 +1,6 @@
 -- Directions along which a cost falls and no row rises, and multipliers with which the rows balance the cost.
-use Rattle.std.specs.Prelude.{ℕ, ℤ, pos, ◌≡◌, ◌<◌, ◌+ℤ◌, ◌*ℤ◌, ◌≤ℤ◌, ◌<ℤ◌}
+use Rattle.std.specs.Prelude.{ℕ, ℤ, pos, ◌≡◌, ◌<◌, ◌+ℤ◌, ◌*ℤ◌, ◌≤ℤ◌, ◌<ℤ◌, unsigned_abs}
+use Rattle.std.specs.Int.{◌∣◌}
 use Rattle.bz_algebra.specs.Sums.{upto}
 
 -- along d none of the rows rises, and the cost falls; a row is given by its coefficient in each column
@@ -12,6 +13,10 @@ pub record IsBalance (columns rows : ℕ) (term : ℕ → ℕ → ℤ) (cost y :
   pub multipliers : (i : ℕ) → i < rows → (pos 0) ≤ℤ (y i)
   pub positive : (pos 0) <ℤ p
   pub balanced : (j : ℕ) → j < columns → upto rows (λ i. y i *ℤ term i j) +ℤ (p *ℤ cost j) ≡ pos 0
+
+-- no natural but 1 divides each number of d
+abbrev pub IsPrimitive : ℕ → (ℕ → ℤ) → Type 0
+IsPrimitive columns d = (g : ℕ) → ((j : ℕ) → j < columns → g ∣ unsigned_abs (d j)) → g ≡ 1
 
 -- there is such a direction
 abbrev pub HasFall : ℕ → ℕ → (ℕ → ℕ → ℤ) → (ℕ → ℤ) → Type 0
