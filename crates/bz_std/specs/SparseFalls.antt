@@ -1,5 +1,5 @@
--- The two ends of rows and a cost that are lists of pairs of a column and a number: directions along which the cost falls
--- and no row rises, and multipliers with which the rows balance the cost.
+-- Rows and a cost that are lists of pairs of a column and a number: directions along which the cost falls and no row
+-- rises, and multipliers with which the rows balance the cost.
 use Rattle.std.specs.Prelude.{ℕ, zero, suc, ℤ, pos, ◌≡◌, ◌<◌, ◌+ℤ◌, ◌*ℤ◌, ◌≤ℤ◌, ◌<ℤ◌, List, [], ◌∷◌, length}
 use Rattle.std.specs.List.{AllByRecursion}
 use Rattle.bz_algebra.specs.Sums.{dot, coef}
@@ -16,8 +16,8 @@ pub record IsFallOf (rows : List (List (ℕ × ℤ))) (cost : List (ℕ × ℤ))
   pub rows_hold : AllByRecursion (λ row. (dot row d) ≤ℤ (pos 0)) rows
   pub cost_falls : (dot cost d) <ℤ (pos 0)
 
--- the rows that mu names, times its multipliers, all of them positive, and the cost times p, which is positive, add up to
--- 0 in each column
+-- the rows that mu names, times its multipliers, all of them positive, and the cost times p, which is positive, add up
+-- to 0 in each column
 pub record IsBalanceOf (columns : ℕ) (rows : List (List (ℕ × ℤ))) (cost mu : List (ℕ × ℤ)) (p : ℤ) : Type 0 where
   pub multipliers : ArePositive (length rows) mu
   pub positive : (pos 0) <ℤ p

@@ -1,4 +1,4 @@
-//! Farkas' lemma over whole numbers, as a law: a cost falls along the rows without end, or the rows hold it.
+//! Farkas' lemma over whole numbers, as a law: a cost falls along a direction that no row forbids, or rows balance it.
 //!
 //! This crate knows no model, no basis and no simplex.
 #![tactic(auto)]
