@@ -8,10 +8,10 @@ use Rattle.bz_algebra.specs.Sums.{dot, coef, upto, AllBelow}
 use Rattle.bz_algebra.specs.Systems.{ArePositive}
 use Rattle.bz_algebra.proofs.Ring.{add_zero, le_antisym, zero_mul}
 use Rattle.bz_algebra.proofs.SumLemmas.{coef_cons, dot_all, dot_append, single, single_at, single_off}
-use Rattle.bz_std.specs.Falls.{IsFall, HasBalance, IsPrimitive}
-use Rattle.bz_std.specs.SparseFalls.{row_at, IsFallOf, HasFallOf, HasBalanceOf}
-use Rattle.bz_std.proofs.Farkas as dense
-use Rattle.bz_std.proofs.PrimitiveFalls as primitive
+use Rattle.bz_farkas.specs.Falls.{IsFall, HasBalance, IsPrimitive}
+use Rattle.bz_farkas.specs.SparseFalls.{row_at, IsFallOf, HasFallOf, HasBalanceOf}
+use Rattle.bz_farkas.proofs.Farkas as dense
+use Rattle.bz_farkas.proofs.PrimitiveFalls as primitive
 
 -- ---- each row of a list
 each_row : (P : List (ℕ × ℤ) → Type 0) (rows : List (List (ℕ × ℤ))) → AllByRecursion P rows → (i : ℕ) → i < length rows → P (row_at rows i)

@@ -7,7 +7,7 @@ use Rattle.bz_algebra.specs.Sums.{upto}
 use Rattle.bz_algebra.proofs.Divisors.{CommonDivisor, common_divisor, part, part_is}
 use Rattle.bz_algebra.proofs.Ring.{cancel_le_left, cancel_lt_left, cancel_positive, mul_left, mul_one, mul_zero, zero_mul}
 use Rattle.bz_algebra.proofs.SumLemmas.{upto_same, upto_scale}
-use Rattle.bz_std.specs.Falls.{IsFall, IsPrimitive, HasFall}
+use Rattle.bz_farkas.specs.Falls.{IsFall, IsPrimitive, HasFall}
 
 -- numbers with a sum of multiples that is 1 have no common divisor but 1
 sum_primitive : (n : ℕ) (v y : ℕ → ℤ) → pos 1 ≡ upto n (λ j. y j *ℤ v j) → IsPrimitive n v

@@ -2,7 +2,7 @@
 use Rattle.std.specs.Prelude.{◌≡◌, pos, negsuc, [], ◌∷◌}
 use Rattle.std.proofs.Common.{refl, arith}
 use Rattle.std.proofs.lemmas.Int.{ints}
-use Rattle.bz_std.specs.SparseFalls.{IsFallOf, IsBalanceOf}
+use Rattle.bz_farkas.specs.SparseFalls.{IsFallOf, IsBalanceOf}
 
 -- the cost d falls along d = -1
 falling : IsFallOf (((0, pos 1) ∷ []) ∷ []) ((0, pos 1) ∷ []) (λ j. negsuc 0)

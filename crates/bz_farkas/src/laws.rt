@@ -1,5 +1,5 @@
 //! What is proved of rows and a cost.
-ghost use Rattle.bz_std.specs.Laws.{ExactlyOneEnd, SparseExactlyOneEnd};
+ghost use Rattle.bz_farkas.specs.Laws.{ExactlyOneEnd, SparseExactlyOneEnd};
 
 /// For any rows and any cost there is a direction along which no row rises and the cost falls, or there are multipliers
 /// that balance the cost; and never both. Where there is such a direction there is a primitive one.

@@ -2,8 +2,8 @@
 use Rattle.std.specs.Prelude.{ℕ, ℤ, ◌⊎◌, List}
 use Rattle.std.specs.List.{AllByRecursion}
 use Rattle.bz_algebra.specs.Sums.{AllBelow}
-use Rattle.bz_std.specs.Falls.{HasFall, HasBalance, IsFall, IsPrimitive}
-use Rattle.bz_std.specs.SparseFalls.{HasFallOf, HasBalanceOf, IsFallOf}
+use Rattle.bz_farkas.specs.Falls.{HasFall, HasBalance, IsFall, IsPrimitive}
+use Rattle.bz_farkas.specs.SparseFalls.{HasFallOf, HasBalanceOf, IsFallOf}
 
 -- Any rows and any cost have a direction along which the cost falls and no row rises, or multipliers that balance them;
 -- and never both. Where there is such a direction there is a primitive one.

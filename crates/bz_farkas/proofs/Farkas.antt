@@ -9,7 +9,7 @@ use Rattle.bz_algebra.specs.Sums.{upto}
 use Rattle.bz_algebra.proofs.Bounded.{below_suc, with_last, with_last_at, with_last_before, zeros_or_not}
 use Rattle.bz_algebra.proofs.Ring.{*ℤ_assoc, sub_mul, add_mul, mul_sub, mul_left, mul_neg, neg_mul, neg_positive, mul_zero, zero_mul, mul_le_left, mul_lt_left, mul_nonnegative, mul_positive, by_sign}
 use Rattle.bz_algebra.proofs.SumLemmas.{upto_same, upto_sub, upto_add, upto_scale, upto_scale_right, upto_rows, upto_le, upto_zeros, upto_zero, single, single_sum}
-use Rattle.bz_std.specs.Falls.{IsFall, IsBalance, HasFall, HasBalance}
+use Rattle.bz_farkas.specs.Falls.{IsFall, IsBalance, HasFall, HasBalance}
 
 -- ---- a row along a direction
 -- how much the row f rises along d
