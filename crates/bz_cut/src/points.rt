@@ -6,7 +6,7 @@ ghost use Rattle.bz_cut.specs.Points.{AreSame, CutsOff, cutting_pairs};
 
 use crate::records::Cut;
 use bz_model::Master;
-use bz_num::{WideSum, narrow_negation, narrow_product, narrow_sum, row_sum};
+use bz_num::{SparseRow, WideSum, narrow_negation, narrow_product, narrow_sum, row_sum};
 
 /// The sum with the product of the pair added, or the wide place `at` that this is.
 fn with_product(sum: i128, a: i128, b: i128, at: usize) -> Result<i128, WideSum>
@@ -46,12 +46,26 @@ pub fn cuts_off(cut: &Cut, point: &Master) -> Result<bool, WideSum>
     Ok(sum > 0)
 }
 
+/// Whether the numbers are equal.
+fn are_equal(a: i128, b: i128) -> bool
+    ensures { IsTrue result ↔ (a ≡ b) }
+{
+    a == b
+}
+
+/// Whether the rows have the same pairs.
+fn have_same_pairs(a: &SparseRow, b: &SparseRow) -> bool
+    ensures { IsTrue result ↔ (a.now ≡ b.now) }
+{
+    a.as_slice() == b.as_slice()
+}
+
 /// Whether the two say the same of the same block, whatever multipliers they come from. It takes no memory.
 pub fn same(a: &Cut, b: &Cut) -> bool
     ensures { IsTrue result ↔ AreSame a.now b.now }
 {
     a.block == b.block
-        && a.alpha.as_slice() == b.alpha.as_slice()
-        && a.p0 == b.p0
-        && a.beta == b.beta
+        && have_same_pairs(&a.alpha, &b.alpha)
+        && are_equal(a.p0, b.p0)
+        && are_equal(a.beta, b.beta)
 }

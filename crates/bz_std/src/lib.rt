@@ -1,0 +1,4 @@
+//! The three programs of a split: of a node, of a separation and of a floor.
+//!
+//! This crate solves none of them, and knows no search.
+#![tactic(auto)]
