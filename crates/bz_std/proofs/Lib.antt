@@ -1,0 +1,4 @@
+pub mod Building
+pub mod Listed
+pub mod OverColumns
+pub mod RightSides

@@ -1,3 +1,4 @@
 pub mod Meanings
 pub mod Posed
+pub mod Stops
 pub mod Tasks

@@ -29,9 +29,13 @@ right_pairs point i = (point.den, i.rhs) ∷ pairs_at (negated i.master) (coordi
 abbrev pub own_line : Master → Ineq → Line
 own_line point i = record { terms = i.own; rhs = products (right_pairs point i) }
 
--- in mode Cost the block's cost is at most its eta
+-- the block's cost is at most its eta
+abbrev pub cost_line : Model → List ℕ → Master → ℕ → Line
+cost_line m part point b = record { terms = terms_in part b (inner_cost m); rhs = eta_of point b }
+
+-- in mode Cost that line is one of the program's
 abbrev pub cost_lines : Model → List ℕ → Master → ℕ → Mode → List Line
-cost_lines m part point b mode.Cost = record { terms = terms_in part b (inner_cost m); rhs = eta_of point b } ∷ []
+cost_lines m part point b mode.Cost = cost_line m part point b ∷ []
 cost_lines m part point b mode.Point = []
 
 -- The separation program of block b: its variables are den times the block's positions. It has no cost.
