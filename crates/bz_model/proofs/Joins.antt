@@ -5,12 +5,12 @@ use Rattle.std.proofs.Common.{refl, ap, sym, subst, ◌∙◌, arith, inl, inr, 
 use Rattle.std.proofs.lemmas.Bool.{cases_Bool, cases_eq, ne_eqb}
 use Rattle.std.proofs.Math.Seq.{take-suc}
 use Rattle.std.proofs.lemmas.Grind.{flat_map-append}
-use Rattle.std.proofs.lemmas.List.{get_or_default, map-append}
+use Rattle.std.proofs.lemmas.List.{get_or-map, get_or_default, map-append}
 use Rattle.std.proofs.lemmas.List.Elements.{filter-append}
 use Rattle.bz_model.specs.declared.records.Column.{Column}
 use Rattle.bz_model.specs.declared.records.Ineq.{Ineq}
 use Rattle.bz_model.specs.declared.records.Row.{Row}
-use Rattle.bz_model.specs.Parting.{part_of, columns_of, home_of, sides_of_row, sides_of_column}
+use Rattle.bz_model.specs.Parting.{part_of, columns_of, home_of, homes_of, sides_of_row, sides_of_column}
 use Rattle.bz_model.specs.PartLists.{AreJoined, ListsAre, bounds_at, only_at, sides_of_columns, sides_of_rows}
 
 module _ {X : Type 0} where
@@ -60,6 +60,13 @@ home_only part row b = elim (cases_eq (home_of part row.terms) b) [
   | inl t ↦ subst (λ (k : ℕ). only_at (home_of part row.terms) (sides_of_row part (home_of part row.terms) row) k ≡ cond (eqb (home_of part row.terms) k) (sides_of_row part k row) []) t refl
   | inr t ↦ rw (ne_eqb (home_of part row.terms) b t)
 ]
+
+-- the part that is kept of a row is its part
+pub kept_home : (part homes : List ℕ) (rows : List Row) (i : ℕ) (row : Row) → homes ≡ homes_of part rows → i < length rows →
+    row ≡ get_or rows i row → slice_index_or homes i 0 ≡ home_of part row.terms
+kept_home part homes rows i row h l e =
+    ap (λ (hs : List ℕ). slice_index_or hs i 0) h ∙ get_or-map (λ (r : Row). home_of part r.terms) rows i row 0 l
+    ∙ ap (λ (r : Row). home_of part r.terms) (sym e)
 
 pub rows_more : (part : List ℕ) (rows : List Row) (i : ℕ) (row : Row) {old mid new : List (List Ineq)} → i < length rows → row ≡ get_or rows i row → AreJoined old mid (sides_of_rows part (take i rows)) → AreJoined mid new (only_at (home_of part row.terms) (sides_of_row part (home_of part row.terms) row)) → AreJoined old new (sides_of_rows part (take (i + 1) rows))
 rows_more part rows i row l e j k = join_then _ j k (λ b m.

@@ -6,6 +6,7 @@ pub mod Lowest
 pub mod MeetingParts
 pub mod Numbered
 pub mod PartCosts
+pub mod PartSizes
 pub mod PartSums
 pub mod Placing
 pub mod Positions

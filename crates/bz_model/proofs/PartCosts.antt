@@ -13,7 +13,7 @@ use Rattle.bz_model.proofs.Positions.{length-columns_of}
 pub width_small : (d : Decomposition) (b : ℕ) → IsSplit d → length (columns_of d.part b) < 2 ^ 28
 width_small d b s =
     let most : width_of d.part b ≤ length d.part = count_by-le-length (λ c. nat_eq c b) d.part in
-    rw (length-columns_of d.part b) (omega (arith, s.partition.numbers, s.limits.columns))
+    rw (length-columns_of d.part b) (omega (arith, s.partition.numbers, d.model.few_columns))
 
 coef_negated-step : (b : Bool) (v r : ℤ) → cond b (neg_ℤ v) (pos 0) +ℤ neg_ℤ r ≡ neg_ℤ (cond b v (pos 0) +ℤ r)
 coef_negated-step true v r = omega (arith, ints)

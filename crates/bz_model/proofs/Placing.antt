@@ -6,6 +6,7 @@ use Rattle.std.proofs.Math.ListN.{get_or-append}
 use Rattle.std.proofs.lemmas.Bool.{cases_Bool, cases_eq, ltb-true, ltb-false}
 use Rattle.std.proofs.lemmas.List.{get_or_default, length-append, length-take}
 use Rattle.std.proofs.lemmas.List.Sums.{count_by-le-length}
+use Rattle.bz_model.specs.declared.kept.Kept.{Kept}
 use Rattle.bz_model.specs.declared.records.Ineq.{Ineq}
 use Rattle.bz_model.specs.declared.records.Model.{Model}
 use Rattle.bz_model.specs.Parting.{part_of, blocks_of, columns_of, position_of, inequalities_of}
@@ -58,7 +59,7 @@ placed_more part i n positions {columns} {next} a l e j = record {
 
 -- ---- what is kept
 -- the list of a part that is kept is the list of its inequalities
-pub kept_inequalities : (m : Model) (part : List ℕ) {blocks : ℕ} {columns : List (List ℕ)} {lists : List (List Ineq)} (b : ℕ) (xs : List Ineq) → IsKept m part blocks columns lists → b ≤ blocks_of part → xs ≡ slice_index_or lists b xs → xs ≡ inequalities_of m part b
-kept_inequalities m part {blocks} {columns} {lists} b xs k l e =
-    let within : b < length lists = omega (arith, k.inequalities_are.count) in
-    e ∙ get_or_default lists b xs [] within ∙ k.inequalities_are.each b (omega arith)
+pub kept_inequalities : (m : Model) (part : List ℕ) {kept : Kept} (b : ℕ) (xs : List Ineq) → IsKept m part kept → b ≤ blocks_of part → xs ≡ slice_index_or kept.inequalities.items b xs → xs ≡ inequalities_of m part b
+kept_inequalities m part {kept} b xs k l e =
+    let within : b < length kept.inequalities.items = omega (arith, k.inequalities_are.count) in
+    e ∙ get_or_default kept.inequalities.items b xs [] within ∙ k.inequalities_are.each b (omega arith)

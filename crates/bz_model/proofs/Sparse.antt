@@ -1,7 +1,7 @@
 -- Rows that are picked from sparse rows are sparse, and what a loop over a row's terms has picked.
-use Rattle.std.specs.Prelude.{ℕ, zero, suc, ◌+◌, ◌<◌, ◌≤◌, ◌≡◌, Bool, eqb, cond, ℤ, pos, neg_ℤ, ◌<ℤ◌, List, [], ◌∷◌, ◌++◌, length, take, drop, count_by, get_or}
+use Rattle.std.specs.Prelude.{ℕ, zero, suc, ◌+◌, ◌<◌, ◌≤◌, ◌≡◌, Bool, true, false, eqb, cond, ℤ, pos, neg_ℤ, ◌<ℤ◌, List, [], ◌∷◌, ◌++◌, length, take, drop, count_by, get_or}
 use Rattle.std.specs.Int.RustNames.{unsigned_abs}
-use Rattle.std.proofs.Common.{ap, sym, ◌∙◌, arith, inl, inr, add-one, append_assoc, append-nil}
+use Rattle.std.proofs.Common.{ap, refl, sym, ◌∙◌, arith, inl, inr, add-one, append_assoc, append-nil}
 use Rattle.std.proofs.Math.Seq.{drop-cons}
 use Rattle.std.proofs.Math.ListN.{drop_of_length-le}
 use Rattle.std.proofs.lemmas.Int.{ints}
@@ -11,8 +11,8 @@ use Rattle.bz_algebra.specs.Numbers.{IsNarrow}
 use Rattle.bz_algebra.specs.Sums.{AllBelow}
 pub use Rattle.bz_num.proofs.Rows.{below_at}
 use Rattle.bz_num.specs.Row.{IsSparse, IsSparseFrom}
-use Rattle.bz_model.specs.Parting.{part_of, position_of, terms_in, home_of, negated}
-use Rattle.bz_model.proofs.PartSums.{terms_in-here, terms_in-there}
+use Rattle.bz_model.specs.Parting.{part_of, position_of, terms_in, home_of, negated, turned}
+use Rattle.bz_model.proofs.PartSums.{negated_within, terms_in-here, terms_in-there}
 
 -- ---- counts grow
 count_grows : (p : ℕ → Bool) (xs : List ℕ) (i j : ℕ) → i ≤ j → count_by p (take i xs) ≤ count_by p (take j xs)
@@ -73,6 +73,12 @@ sparse_from_negated low (e ∷ es) h = (record { column = h.0.column; some = rw 
 pub sparse_negated : (es : List (ℕ × ℤ)) → IsSparse es → IsSparse (negated es)
 sparse_negated es h = sparse_from_negated 0 es h
 
+-- what is picked of a sparse row is sparse
+pub sparse_picked : (part : List ℕ) (b : ℕ) (n : Bool) (es : List (ℕ × ℤ)) → AllBelow (length part) es → IsSparse es →
+    IsSparse (terms_in part b (turned n es))
+sparse_picked part b true es k h = sparse_terms_in part b (negated es) (negated_within (length part) es k) (sparse_negated es h)
+sparse_picked part b false es k h = sparse_terms_in part b es k h
+
 -- one term
 pub sparse_single : (j : ℕ) (d : ℤ) → (pos 0) <ℤ d → IsNarrow d → IsSparse ((j, d) ∷ [])
 sparse_single j d h n = (record { column = omega arith; some = omega (arith, ints); narrow = n }, tt)
@@ -85,14 +91,30 @@ pub none_left : {X : Type 0} (es : List X) (i : ℕ) → length es ≤ i → dro
 none_left es i l = drop_of_length-le es l
 
 -- what is picked at a place, and what is left after it
-pub pick_here : (part : List ℕ) (b : ℕ) (es : List (ℕ × ℤ)) (i : ℕ) (d : ℕ × ℤ) → i < length es → part_of part (get_or es i d).0 ≡ b → terms_in part b (drop i es) ≡ (position_of part (get_or es i d).0, (get_or es i d).1) ∷ terms_in part b (drop (i + 1) es)
-pick_here part b es i d l t = ap (terms_in part b) (left_at es i d l) ∙ terms_in-here part b (get_or es i d) (drop (i + 1) es) t
+turned_cons : (n : Bool) (e : ℕ × ℤ) (es : List (ℕ × ℤ)) → turned n (e ∷ es) ≡ (e.0, cond n (neg_ℤ e.1) e.1) ∷ turned n es
+turned_cons true e es = refl
+turned_cons false e es = refl
 
-pub pick_there : (part : List ℕ) (b : ℕ) (es : List (ℕ × ℤ)) (i : ℕ) (d : ℕ × ℤ) → i < length es → (part_of part (get_or es i d).0 ≡ b → ⊥) → terms_in part b (drop i es) ≡ terms_in part b (drop (i + 1) es)
-pick_there part b es i d l t = ap (terms_in part b) (left_at es i d l) ∙ terms_in-there part b (get_or es i d) (drop (i + 1) es) t
+-- the terms that are still to be picked
+abbrev pub picked : List ℕ → ℕ → Bool → List (ℕ × ℤ) → List (ℕ × ℤ)
+picked part b n es = terms_in part b (turned n es)
 
-pub negated_next : (es : List (ℕ × ℤ)) (i : ℕ) (d : ℕ × ℤ) → i < length es → negated (drop i es) ≡ ((get_or es i d).0, neg_ℤ (get_or es i d).1) ∷ negated (drop (i + 1) es)
-negated_next es i d l = ap negated (left_at es i d l)
+pub picked_none : (part : List ℕ) (b : ℕ) (n : Bool) → picked part b n [] ≡ []
+picked_none part b true = refl
+picked_none part b false = refl
+
+pub pick_here : (part : List ℕ) (b : ℕ) (n : Bool) (es : List (ℕ × ℤ)) (i : ℕ) (d : ℕ × ℤ) → i < length es →
+    part_of part (get_or es i d).0 ≡ b →
+    picked part b n (drop i es) ≡ (position_of part (get_or es i d).0, cond n (neg_ℤ (get_or es i d).1) (get_or es i d).1) ∷ picked part b n (drop (i + 1) es)
+pick_here part b n es i d l t =
+    ap (picked part b n) (left_at es i d l) ∙ ap (terms_in part b) (turned_cons n (get_or es i d) (drop (i + 1) es))
+    ∙ terms_in-here part b ((get_or es i d).0, cond n (neg_ℤ (get_or es i d).1) (get_or es i d).1) (turned n (drop (i + 1) es)) t
+
+pub pick_there : (part : List ℕ) (b : ℕ) (n : Bool) (es : List (ℕ × ℤ)) (i : ℕ) (d : ℕ × ℤ) → i < length es →
+    (part_of part (get_or es i d).0 ≡ b → ⊥) → picked part b n (drop i es) ≡ picked part b n (drop (i + 1) es)
+pick_there part b n es i d l t =
+    ap (picked part b n) (left_at es i d l) ∙ ap (terms_in part b) (turned_cons n (get_or es i d) (drop (i + 1) es))
+    ∙ terms_in-there part b ((get_or es i d).0, cond n (neg_ℤ (get_or es i d).1) (get_or es i d).1) (turned n (drop (i + 1) es)) t
 
 home_first : (part : List ℕ) (e : ℕ × ℤ) (es : List (ℕ × ℤ)) → 0 < part_of part e.0 → home_of part (e ∷ es) ≡ part_of part e.0
 home_first part e es t = rw (lt-ltb 0 (part_of part e.0) t)

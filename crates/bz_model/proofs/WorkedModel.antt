@@ -9,7 +9,6 @@ use Rattle.bz_model.specs.declared.records.Model.{Model}
 use Rattle.bz_model.specs.declared.records.Row.{Row}
 use Rattle.bz_model.specs.Parting.{part_of}
 use Rattle.bz_model.specs.Strict.{HasItsColumns, IsInOneBlock, IsPartition, IsStrict, IsStrictColumn}
-use Rattle.bz_model.specs.Limits.{IsWithinLimits}
 use Rattle.bz_model.specs.Worked.{AreWorkedColumns, AreWorkedRows}
 use Rattle.bz_model.proofs.Inequalities.{size_within}
 
@@ -67,6 +66,3 @@ worked_strict m c r = let n = two_columns m.columns c in let k = one_row m.rows 
   columns = columns_strict m.columns c;
   small = λ b l. omega (arith, n, k, size_within m worked_part b);
 }
-
-pub worked_limits : (m : Model) → AreWorkedColumns m.columns → AreWorkedRows m.rows → IsWithinLimits m
-worked_limits m c r = let n = two_columns m.columns c in let k = one_row m.rows r in record { columns = rw n (omega arith); rows = rw k (omega arith) }

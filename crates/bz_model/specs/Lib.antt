@@ -8,6 +8,7 @@ pub mod PointFits
 pub mod PointSums
 pub mod Points
 pub mod Rays
+pub mod Sizes
 pub mod Splits
 pub mod Stated
 pub mod Strict

@@ -1,9 +1,10 @@
 -- The parts of a model under a partition of its columns, and the inequalities of each part. A partition is a list with
 -- one number per column: 0 for the master, b for block b.
-use Rattle.std.specs.Prelude.{ℕ, ℤ, ◌+ℤ◌, ◌*ℤ◌, ◌≤ℤ◌, ◌==◌, ◌&&◌, not, List, [], ◌∷◌, ◌++◌, Option, Some, None, take, filter, map, find, count_by, unwrap_or, slice_index, if◌then◌else◌, nat_lt}
+use Rattle.std.specs.Prelude.{ℕ, ℤ, Bool, ◌+ℤ◌, ◌*ℤ◌, ◌≤ℤ◌, ◌==◌, ◌&&◌, not, List, [], ◌∷◌, ◌++◌, Option, Some, None, take, filter, map, find, count_by, unwrap_or, slice_index, if◌then◌else◌, nat_lt}
 use Rattle.std.specs.List.{enumerate_from, flat_map}
 use Rattle.std.proofs.Math.IntN.{neg_ℤ}
 use Rattle.bz_algebra.specs.Sums.{dot}
+use Rattle.bz_num.specs.declared.Frac.{Frac}
 use Rattle.bz_model.specs.declared.records.Column.{Column}
 use Rattle.bz_model.specs.declared.records.Ineq.{Ineq}
 use Rattle.bz_model.specs.declared.records.Model.{Model}
@@ -44,9 +45,17 @@ terms_in part b terms =
 abbrev pub home_of : List ℕ → List (ℕ × ℤ) → ℕ
 home_of part terms = unwrap_or (find (λ b. nat_lt 0 b) (map (λ e. part_of part e.0) terms)) 0
 
+-- the part that each row belongs to
+abbrev pub homes_of : List ℕ → List Row → List ℕ
+homes_of part rows = map (λ row. home_of part row.terms) rows
+
 -- each number the other way round
 abbrev pub negated : List (ℕ × ℤ) → List (ℕ × ℤ)
 negated terms = map (λ e. (e.0, neg_ℤ e.1)) terms
+
+-- the terms as they are, or each number the other way round
+abbrev pub turned : Bool → List (ℕ × ℤ) → List (ℕ × ℤ)
+turned negate terms = (if negate then negated terms else terms)
 
 -- `terms <= rhs` as an inequality of part b: its own terms, and beside them the master's where b is a block
 abbrev pub at_most : List ℕ → ℕ → List (ℕ × ℤ) → ℤ → Ineq
@@ -65,16 +74,27 @@ abbrev pub where_some : {A B : Type 0} → Option A → (A → B) → List B
 where_some None f = []
 where_some (Some a) f = f a ∷ []
 
+-- what an upper side of terms gives part b, and a lower side
+abbrev pub upper_side : List ℕ → ℕ → List (ℕ × ℤ) → Option ℤ → List Ineq
+upper_side part b terms upper = where_some upper (at_most part b terms)
+
+abbrev pub lower_side : List ℕ → ℕ → List (ℕ × ℤ) → Option ℤ → List Ineq
+lower_side part b terms lower = where_some lower (at_least part b terms)
+
 -- the inequalities of a row of part b: its upper side and then its lower side
 abbrev pub sides_of_row : List ℕ → ℕ → Row → List Ineq
-sides_of_row part b row =
-    where_some row.upper (at_most part b row.terms) ++ where_some row.lower (at_least part b row.terms)
+sides_of_row part b row = upper_side part b row.terms row.upper ++ lower_side part b row.terms row.lower
 
--- the inequalities of a column of part b: its upper bound n / d as `d x <= n`, and then its lower bound
+-- what an upper bound n / d of a column gives part b, as `d x <= n`, and a lower bound
+abbrev pub upper_bound : List ℕ → ℕ → ℕ → Option Frac → List Ineq
+upper_bound part b column upper = where_some upper (λ f. at_most part b ((column, f.den) ∷ []) f.num)
+
+abbrev pub lower_bound : List ℕ → ℕ → ℕ → Option Frac → List Ineq
+lower_bound part b column lower = where_some lower (λ f. at_least part b ((column, f.den) ∷ []) f.num)
+
+-- the inequalities of a column of part b: its upper bound and then its lower bound
 abbrev pub sides_of_column : List ℕ → ℕ → ℕ × Column → List Ineq
-sides_of_column part b e =
-    where_some e.1.upper (λ f. at_most part b ((e.0, f.den) ∷ []) f.num)
-    ++ where_some e.1.lower (λ f. at_least part b ((e.0, f.den) ∷ []) f.num)
+sides_of_column part b e = upper_bound part b e.0 e.1.upper ++ lower_bound part b e.0 e.1.lower
 
 -- the rows of a part, in file order
 abbrev pub rows_in : Model → List ℕ → ℕ → List Row

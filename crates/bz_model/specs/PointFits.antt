@@ -12,7 +12,7 @@ use Rattle.bz_model.specs.declared.parts.Parts.{Parts}
 use Rattle.bz_model.specs.Parting.{inequalities_of, inner_cost, terms_in}
 use Rattle.bz_model.specs.PartPoints.{eta_of}
 use Rattle.bz_model.specs.Points.{coordinate}
-use Rattle.bz_model.specs.PointSums.{row_pairs, stated_pairs}
+use Rattle.bz_model.specs.PointSums.{block_pairs, row_pairs, stated_pairs}
 
 -- In a sum the pairs stand with their indexes rising.
 
@@ -26,7 +26,7 @@ pub record FitsInMaster (master : Master) (i : Ineq) : Type 0 where
 pub record FitsInBlock (master : Master) (block : BlockPart) (i : Ineq) : Type 0 where
   pub in_master : IsNarrowSum (row_pairs i.master master.x)
   pub in_block : IsNarrowSum (row_pairs i.own block.y)
-  pub together : IsNarrowSum ((block.times, dot i.master (coordinate master.x)) ∷ (pos 1, dot i.own (coordinate block.y)) ∷ [])
+  pub together : IsNarrowSum (block_pairs master block i)
   pub side : IsNarrow (i.rhs *ℤ (master.den *ℤ block.times))
 
 -- a block: its denominator and its inequalities

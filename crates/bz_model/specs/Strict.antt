@@ -28,12 +28,20 @@ pub record IsStrictColumn (part : ℕ) (column : Column) : Type 0 where
   pub integer : OnTrue column.integer (part ≡ 0)
   pub bounded : part ≡ 0 → IsSome column.lower × IsSome column.upper
 
+-- no row joins two blocks
+abbrev pub AreUnjoined : Model → List ℕ → Type 0
+AreUnjoined m part = AllByRecursion (λ row. IsInOneBlock part row.terms) m.rows
+
+-- every column is where it may be
+abbrev pub AreStrictColumns : Model → List ℕ → Type 0
+AreStrictColumns m part = AllByRecursion (λ e. IsStrictColumn (part_of part e.0) e.1) (enumerate_from 0 m.columns)
+
 -- how many inequalities a part has, with the two sides of the box of each integer column for the master
 abbrev pub size_of : Model → List ℕ → ℕ → ℕ
 size_of m part b = length (inequalities_of m part b) + (if b == 0 then 2 * length (integers_of m) else 0)
 
 -- the partition is strict: no row joins two blocks, every column is where it may be, and no part is too large
 pub record IsStrict (m : Model) (part : List ℕ) : Type 0 where
-  pub rows : AllByRecursion (λ row. IsInOneBlock part row.terms) m.rows
-  pub columns : AllByRecursion (λ e. IsStrictColumn (part_of part e.0) e.1) (enumerate_from 0 m.columns)
+  pub rows : AreUnjoined m part
+  pub columns : AreStrictColumns m part
   pub small : (b : ℕ) → b ≤ blocks_of part → size_of m part b ≤ 1024

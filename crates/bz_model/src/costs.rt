@@ -6,8 +6,8 @@ ghost use Rattle.bz_algebra.specs.Sums.{coef};
 ghost use Rattle.bz_model.specs.Parting.{blocks_of, inner_cost, terms_in, width_of};
 
 use crate::records::Model;
+use crate::sides::signed;
 use crate::splitting::Split;
-use bz_num::narrow_negation;
 
 /// What a number of the model's cost is in the cost that is minimised: negated where the model maximises.
 pub fn inner_number(maximise: bool, number: i128) -> i128
@@ -15,11 +15,7 @@ pub fn inner_number(maximise: bool, number: i128) -> i128
     ensures value { result ≡ (if maximise then neg_ℤ number else number) }
     ensures narrow { IsNarrow result }
 {
-    if maximise {
-        narrow_negation(number)
-    } else {
-        number
-    }
+    signed(maximise, number)
 }
 
 /// The number of a column in the cost that is minimised.

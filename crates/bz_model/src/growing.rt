@@ -1,6 +1,6 @@
 //! Lists that grow at their ends.
 ghost use Rattle.std.specs.Prelude.{◌≡◌, ◌<◌, ◌∷◌, ◌++◌, [], IfOk, length, replicate};
-ghost use Rattle.bz_model.specs.PartLists.{AreJoined, only_at};
+ghost use Rattle.bz_model.specs.PartLists.{Gains};
 
 use std::alloc::{AllocError, Global};
 use std::marker::Model;
@@ -61,7 +61,7 @@ pub fn empty_lists<T: Drop>(alloc: Global, count: usize) -> Result<Vec<Growing<T
 /// Adds an item at the end of one of the lists.
 pub fn push_at<T: Drop>(lists: &mut Vec<Growing<T>>, at: usize, item: T) -> Result<(), AllocError>
     requires { at < length lists.old.items }
-    ensures { IfOk result (λ _. AreJoined lists.old.items lists.new.items (only_at at (item ∷ []))) }
+    ensures { IfOk result (λ _. Gains lists.old.items lists.new.items at (item ∷ [])) }
 {
     lists[at].push(item)
 }

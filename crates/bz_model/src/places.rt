@@ -1,8 +1,8 @@
 //! The columns of each part, and the position of each column.
-ghost use Rattle.std.specs.Prelude.{◌≡◌, suc, ◌<◌, IfOk, length};
+ghost use Rattle.std.specs.Prelude.{◌≡◌, ◌<◌, IfOk, length};
 ghost use Rattle.bz_model.specs.Limits.{list_limit};
-ghost use Rattle.bz_model.specs.Parting.{blocks_of, columns_of};
-ghost use Rattle.bz_model.specs.PartLists.{ArePositions, ListsAre};
+ghost use Rattle.bz_model.specs.Parting.{blocks_of};
+ghost use Rattle.bz_model.specs.PartLists.{AreColumnLists, ArePositions};
 
 use crate::growing::{Growing, empty_lists, push_at};
 use std::alloc::{AllocError, Global};
@@ -33,7 +33,7 @@ pub fn find_places(alloc: Global, part: &[u32], blocks: u32) -> Result<Places, A
     requires few { length part.now < list_limit }
     requires blocks { blocks ≡ blocks_of part.now }
     ensures positions { IfOk result (λ places. ArePositions part.now places.positions.items) }
-    ensures columns { IfOk result (λ places. ListsAre (suc (blocks_of part.now)) (columns_of part.now) places.columns.items) }
+    ensures columns { IfOk result (λ places. AreColumnLists part.now places.columns.items) }
 {
     let mut columns = empty_lists(alloc, blocks as usize + 1)?;
     let mut positions = Vec::with_capacity(alloc, part.len())?;

@@ -1,7 +1,8 @@
 //! The records of a model.
-ghost use Rattle.std.specs.Prelude.{◌≡◌, pos, ◌<ℤ◌};
+ghost use Rattle.std.specs.Prelude.{◌≡◌, pos, ◌<◌, ◌<ℤ◌, length};
 ghost use Rattle.std.specs.Option.{ForSome};
 ghost use Rattle.bz_algebra.specs.Numbers.{IsNarrow};
+ghost use Rattle.bz_model.specs.Limits.{list_limit};
 
 use bz_num::{Frac, Items, Name, SparseRow};
 
@@ -33,7 +34,8 @@ pub struct Row {
     pub ghost upper_narrow: { ForSome upper IsNarrow },
 }
 
-/// A model. The objective's value at a point x is `(cost x + constant) / scale`.
+/// A model. The objective's value at a point x is `(cost x + constant) / scale`. It has fewer than
+/// 2^28 columns and fewer than 2^28 rows.
 #[derive(Drop)]
 pub struct Model {
     /// The columns in file order; a column's number is its place here, from 0.
@@ -52,6 +54,8 @@ pub struct Model {
     pub maximise: bool,
     pub ghost constant_narrow: { IsNarrow constant },
     pub ghost scale_positive: { pos 0 <ℤ scale },
+    pub ghost few_columns: { length columns < list_limit },
+    pub ghost few_rows: { length rows < list_limit },
 }
 
 /// An inequality of a part of a split: the sum of `own` over the part's own positions and of `master` over the

@@ -1,61 +1,49 @@
 //! The inequalities that rows and bounds give.
-ghost use Rattle.std.specs.Prelude.{◌≡◌, ◌<◌, ◌≤◌, ◌==◌, ◌∷◌, [], if◌then◌else◌, IfOk, length};
-ghost use Rattle.std.specs.List.{filter, flat_map, enumerate_from};
+ghost use Rattle.std.specs.Prelude.{◌≡◌, ◌<◌, ◌==◌, [], if◌then◌else◌, IfOk, length};
+ghost use Rattle.std.proofs.Math.IntN.{neg_ℤ};
 ghost use Rattle.std.specs.Option.{ForSome};
 ghost use Rattle.bz_algebra.specs.Numbers.{IsNarrow};
 ghost use Rattle.bz_algebra.specs.Sums.{AllBelow};
-ghost use Rattle.bz_model.specs.Parting.{at_least, at_most, home_of, negated, sides_of_column, sides_of_row, terms_in, where_some};
-ghost use Rattle.bz_model.specs.PartLists.{AreJoined, ArePositions, only_at};
+ghost use Rattle.bz_model.specs.Parting.{at_most, lower_side, terms_in, turned, upper_side};
+ghost use Rattle.bz_model.specs.PartLists.{ArePositions, Gains};
 
 use crate::growing::{Growing, push_at};
-use crate::records::{Column, Ineq, Row};
-use bz_num::{Frac, SparseRow, narrow_negation};
+use crate::records::Ineq;
+use bz_num::{SparseRow, narrow_negation};
 use std::alloc::{AllocError, Global};
 
-/// The part that a row of these terms belongs to: the block of its first column in a block, or the master where it has
-/// none. It takes no memory.
-pub fn home(part: &[u32], terms: &SparseRow) -> u32
-    requires { AllBelow (length part.now) terms.now }
-    ensures { result ≡ home_of part.now terms.now }
+/// The number, the other way round where it is negated.
+pub fn signed(negate: bool, number: i128) -> i128
+    requires { IsNarrow number }
+    ensures value { result ≡ (if negate then neg_ℤ number else number) }
+    ensures narrow { IsNarrow result }
 {
-    for entry in terms.as_slice() {
-        let b = part[entry.0 as usize];
-        if b > 0 {
-            return b;
-        }
+    if negate {
+        narrow_negation(number)
+    } else {
+        number
     }
-    0
 }
 
-/// The terms that stand in part `b`, by position.
+/// The terms that stand in part `b`, by position, each number the other way round where they are negated.
 pub fn pick_terms(
     alloc: Global,
     part: &[u32],
     positions: &[u32],
     b: u32,
     terms: &SparseRow,
+    negate: bool,
 ) -> Result<SparseRow, AllocError>
     requires columns { AllBelow (length part.now) terms.now }
     requires places { ArePositions part.now positions.now }
-    ensures { IfOk result (λ row. row ≡ terms_in part.now b terms.now) }
+    ensures { IfOk result (λ row. row ≡ terms_in part.now b (turned negate terms.now)) }
 {
     let mut entries = Vec::new(alloc);
     for entry in terms.as_slice() {
         let column = entry.0 as usize;
         if part[column] == b {
-            entries.push((positions[column], entry.1))?;
+            entries.push((positions[column], signed(negate, entry.1)))?;
         }
-    }
-    Ok(SparseRow::from_vec(entries))
-}
-
-/// The terms with each number the other way round.
-pub fn negate(alloc: Global, terms: &SparseRow) -> Result<SparseRow, AllocError>
-    ensures { IfOk result (λ row. row ≡ negated terms.now) }
-{
-    let mut entries = Vec::new(alloc);
-    for entry in terms.as_slice() {
-        entries.push((entry.0, narrow_negation(entry.1)))?;
     }
     Ok(SparseRow::from_vec(entries))
 }
@@ -67,58 +55,35 @@ pub fn pick_beside(
     positions: &[u32],
     b: u32,
     terms: &SparseRow,
+    negate: bool,
 ) -> Result<SparseRow, AllocError>
     requires columns { AllBelow (length part.now) terms.now }
     requires places { ArePositions part.now positions.now }
-    ensures { IfOk result (λ row. row ≡ (if b == 0 then [] else terms_in part.now 0 terms.now)) }
+    ensures { IfOk result (λ row. row ≡ (if b == 0 then [] else terms_in part.now 0 (turned negate terms.now))) }
 {
     if b == 0 {
         return Ok(SparseRow::from_vec(Vec::new(alloc)));
     }
-    pick_terms(alloc, part, positions, 0, terms)
+    pick_terms(alloc, part, positions, 0, terms, negate)
 }
 
-/// `terms <= rhs` as an inequality of part `b`.
-pub fn upper_side(
+/// `terms <= rhs` as an inequality of part `b`, the terms the other way round where they are negated.
+pub fn side(
     alloc: Global,
     part: &[u32],
     positions: &[u32],
     b: u32,
     terms: &SparseRow,
+    negate: bool,
     rhs: i128,
 ) -> Result<Ineq, AllocError>
     requires columns { AllBelow (length part.now) terms.now }
     requires places { ArePositions part.now positions.now }
-    ensures { IfOk result (λ side. side ≡ at_most part.now b terms.now rhs) }
+    ensures { IfOk result (λ side. side ≡ at_most part.now b (turned negate terms.now) rhs) }
 {
-    let own = pick_terms(alloc, part, positions, b, terms)?;
-    let master = pick_beside(alloc, part, positions, b, terms)?;
+    let own = pick_terms(alloc, part, positions, b, terms, negate)?;
+    let master = pick_beside(alloc, part, positions, b, terms, negate)?;
     Ok(Ineq { own, master, rhs })
-}
-
-/// `terms >= rhs` as an inequality of part `b`.
-pub fn lower_side(
-    alloc: Global,
-    part: &[u32],
-    positions: &[u32],
-    b: u32,
-    terms: &SparseRow,
-    rhs: i128,
-) -> Result<Ineq, AllocError>
-    requires columns { AllBelow (length part.now) terms.now }
-    requires places { ArePositions part.now positions.now }
-    requires narrow { IsNarrow rhs }
-    ensures { IfOk result (λ side. side ≡ at_least part.now b terms.now rhs) }
-{
-    let negated_terms = negate(alloc, terms)?;
-    upper_side(
-        alloc,
-        part,
-        positions,
-        b,
-        &negated_terms,
-        narrow_negation(rhs),
-    )
 }
 
 /// Adds the upper side of terms to the list of part `b`, where there is one.
@@ -134,11 +99,11 @@ pub fn push_upper(
     requires columns { AllBelow (length part.now) terms.now }
     requires places { ArePositions part.now positions.now }
     requires room { b < length lists.old.items }
-    ensures { IfOk result (λ _. AreJoined lists.old.items lists.new.items (only_at b (where_some upper (at_most part.now b terms.now)))) }
+    ensures { IfOk result (λ _. Gains lists.old.items lists.new.items b (upper_side part.now b terms.now upper)) }
 {
     match upper {
         Some(rhs) => {
-            let side = upper_side(alloc, part, positions, b, terms, rhs)?;
+            let side = side(alloc, part, positions, b, terms, false, rhs)?;
             push_at(lists, b as usize, side)
         },
         None => Ok(()),
@@ -159,11 +124,11 @@ pub fn push_lower(
     requires places { ArePositions part.now positions.now }
     requires narrow { ForSome lower IsNarrow }
     requires room { b < length lists.old.items }
-    ensures { IfOk result (λ _. AreJoined lists.old.items lists.new.items (only_at b (where_some lower (at_least part.now b terms.now)))) }
+    ensures { IfOk result (λ _. Gains lists.old.items lists.new.items b (lower_side part.now b terms.now lower)) }
 {
     match lower {
         Some(rhs) => {
-            let side = lower_side(alloc, part, positions, b, terms, rhs)?;
+            let side = side(alloc, part, positions, b, terms, true, narrow_negation(rhs))?;
             push_at(lists, b as usize, side)
         },
         None => Ok(()),

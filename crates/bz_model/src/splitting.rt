@@ -1,18 +1,15 @@
 //! Splits: a model with a strict partition of its columns, and the inequalities of each part.
-ghost use Rattle.std.specs.Prelude.{◌≡◌, suc, ◌≤◌, IfErr, IfOk};
+ghost use Rattle.std.specs.Prelude.{◌≡◌, ◌≤◌, IfErr, IfOk};
 ghost use Rattle.std.specs.List.{AllByRecursion};
-ghost use Rattle.bz_model.specs.Limits.{IsWithinLimits};
-ghost use Rattle.bz_model.specs.Parting.{blocks_of, columns_of, inequalities_of};
-ghost use Rattle.bz_model.specs.Splits.{Decomposition, FitsPart, IsKept, IsSplit};
+ghost use Rattle.bz_model.specs.Parting.{blocks_of, columns_of, homes_of, inequalities_of};
+ghost use Rattle.bz_model.specs.Splits.{FitsPart, IsSplit};
 ghost use Rattle.bz_model.specs.Strict.{HasItsColumns, IsPartition, IsStrict};
 
-use crate::growing::Growing;
-use crate::places::{find_places, greatest};
+use crate::kept::{Kept, keep};
 use crate::records;
 use crate::records::Ineq;
-use crate::rows::inequality_lists;
 use bz_num::Items;
-use std::alloc::{AllocError, Global};
+use std::alloc::Global;
 use std::marker;
 
 /// A model with a partition that it may be solved by. Contracts see these two.
@@ -20,9 +17,7 @@ use std::marker;
 pub struct Split {
     model: records::Model,
     part: Items<u32>,
-    blocks: u32,
-    columns: Vec<Growing<u32>>,
-    inequalities: Vec<Growing<Ineq>>,
+    kept: Kept,
 }
 
 impl marker::Model for Split {
@@ -32,15 +27,7 @@ impl marker::Model for Split {
 
     ghost view = { λ s. record { model = s.model; part = s.part } };
 
-    ghost invariant = { λ s. IsSplit (record { model = s.model; part = s.part }) × IsKept s.model s.part s.blocks s.columns.items s.inequalities.items };
-}
-
-/// What a split keeps beside its model and partition.
-#[derive(Drop)]
-struct Kept {
-    blocks: u32,
-    columns: Vec<Growing<u32>>,
-    inequalities: Vec<Growing<Ineq>>,
+    ghost invariant = { λ s. IsSplit (record { model = s.model; part = s.part }) × IsKept s.model s.part s.kept };
 }
 
 /// A model and a partition, handed back for want of memory.
@@ -50,41 +37,17 @@ pub struct Unsplit0 {
     pub part: Items<u32>,
 }
 
-/// What a split keeps beside its model and partition.
-fn keep(alloc: Global, model: &records::Model, part: &[u32]) -> Result<Kept, AllocError>
-    requires indexes { HasItsColumns model.now }
-    requires partition { IsPartition model.now part.now }
-    requires limits { IsWithinLimits model.now }
-    ensures { IfOk result (λ kept. IsKept model.now part.now kept.blocks kept.columns.items kept.inequalities.items) }
-{
-    let blocks = greatest(part);
-    let places = find_places(alloc, part, blocks)?;
-    let inequalities = inequality_lists(alloc, model, part, places.positions.as_slice(), blocks)?;
-    Ok(Kept {
-        blocks,
-        columns: places.columns,
-        inequalities,
-    })
-}
-
 impl Split {
     /// The split of the model by the partition. It takes memory; for want of memory both come back.
     pub fn new(alloc: Global, model: records::Model, part: Items<u32>) -> Result<Split, Unsplit0>
         requires indexes { HasItsColumns model }
         requires partition { IsPartition model part }
         requires strict { IsStrict model part }
-        requires limits { IsWithinLimits model }
         ensures split { IfOk result (λ split. split ≡ record { model = model; part = part }) }
         ensures unchanged { IfErr result (λ unsplit. (unsplit.model ≡ model) × (unsplit.part ≡ part)) }
     {
         match keep(alloc, &model, part.as_slice()) {
-            Ok(kept) => Ok(Split {
-                model,
-                part,
-                blocks: kept.blocks,
-                columns: kept.columns,
-                inequalities: kept.inequalities,
-            }),
+            Ok(kept) => Ok(Split { model, part, kept }),
             Err(_) => Err(Unsplit0 { model, part }),
         }
     }
@@ -97,12 +60,28 @@ impl Split {
         &self.model
     }
 
+    /// The part of each column.
+    pub(crate) fn part(&self) -> &[u32]
+        ensures { result.now ≡ self.now.part }
+    {
+        self.part.as_slice()
+    }
+
     /// The number of blocks. It takes no memory.
     pub fn blocks(&self) -> u32
         ensures value { result ≡ blocks_of self.now.part }
         ensures split { IsSplit self.now }
     {
-        self.blocks
+        self.kept.blocks
+    }
+
+    /// The part that each row belongs to, in file order: the block of its columns, or the master where it has none in a
+    /// block. It takes no memory.
+    pub fn homes(&self) -> &[u32]
+        ensures value { result.now ≡ homes_of self.now.part self.now.model.rows }
+        ensures split { IsSplit self.now }
+    {
+        self.kept.homes.as_slice()
     }
 
     /// The columns of a part, in file order. A position of the part is a place in this list. It takes no memory.
@@ -111,7 +90,7 @@ impl Split {
         ensures value { result.now ≡ columns_of self.now.part part }
         ensures split { IsSplit self.now }
     {
-        self.columns[part as usize].as_slice()
+        self.kept.columns[part as usize].as_slice()
     }
 
     /// The inequalities of a part: its rows' sides and its columns' bounds in `<=` form. It takes no memory.
@@ -121,6 +100,6 @@ impl Split {
         ensures split { IsSplit self.now }
         ensures fits { AllByRecursion (FitsPart self.now.part part) result.now }
     {
-        self.inequalities[part as usize].as_slice()
+        self.kept.inequalities[part as usize].as_slice()
     }
 }

@@ -1,5 +1,4 @@
 pub mod FirstItems
-pub mod PartSizes
 pub mod RowCounts
 pub mod TwoBlocks
 pub mod TheFaults

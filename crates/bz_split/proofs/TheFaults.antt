@@ -1,27 +1,21 @@
 -- A model and a partition have exactly one fault where the partition is not strict, and none where it is.
-use Rattle.std.proofs.Common.{◌≡◌, ◌∙◌, ℕ, ℤ, zero, suc, ◌+◌, ◌<◌, ◌≤◌, ◌⊎◌, ◌↔◌, inl, inr, Bool, true, false, List, length, take, get_or, arith, ap, refl, subst, sym}
+use Rattle.std.proofs.Common.{◌≡◌, ◌∙◌, ℕ, ℤ, zero, suc, ◌+◌, ◌<◌, ◌≤◌, ◌⊎◌, ◌↔◌, inl, inr, Bool, true, false, List, ◌∷◌, length, length-append, take, get_or, arith, ap, refl, subst, sym}
 use Rattle.std.specs.Prelude.{is_some}
 use Rattle.std.specs.List.{AllByRecursion, enumerate_from}
+use Rattle.std.specs.Option.{ForSome}
 use Rattle.std.proofs.lemmas.Bool.{OnTrue_at, OnTrue_from, both_ways, cases_Bool, cases_eq, cases_lt}
 use Rattle.std.proofs.lemmas.List.FromFn.{length-enumerate_from}
 use Rattle.bz_model.specs.declared.records.Column.{Column}
 use Rattle.bz_model.specs.declared.records.Model.{Model}
 use Rattle.bz_model.specs.declared.records.Row.{Row}
 use Rattle.bz_model.specs.Parting.{blocks_of, home_of, part_of}
-use Rattle.bz_model.specs.Strict.{IsInOneBlock, IsStrict, IsStrictColumn, size_of}
+use Rattle.bz_model.specs.Strict.{AreStrictColumns, AreUnjoined, IsInOneBlock, IsStrict, IsStrictColumn, size_of}
 use Rattle.bz_split.specs.declared.faults.SplitFault.{SplitFault}
 use Rattle.bz_split.specs.declared.faults.SplitFault.TheVariants.{Joins, IntegerInBlock, IntegerOpen, OpenMaster, TooLarge, OutOfMemory}
+use Rattle.bz_split.specs.Places.{column_of, row_of}
 use Rattle.bz_split.specs.SplitFaults.{AreTwoBlocks, IsColumnFault, IsFirstColumn, IsFirstJoin, IsFirstLarge, IsFirstNot, IsIntegerInBlock, IsIntegerOpen, IsOpenMaster, IsSplitFault, parts_of}
 use Rattle.bz_split.proofs.FirstItems.{all_or_first, all_taken, first_item, not_all, numbered_at, one_more, place_is, same_first}
 use Rattle.bz_split.proofs.TwoBlocks.{is_in, some_two_blocks}
-
--- each row of the model is in one block
-abbrev pub AreUnjoined : Model → List ℕ → Type 0
-AreUnjoined m part = AllByRecursion (λ row. IsInOneBlock part row.terms) m.rows
-
--- each column of the model may be where it is
-abbrev pub AreStrictColumns : Model → List ℕ → Type 0
-AreStrictColumns m part = AllByRecursion (λ e. IsStrictColumn (part_of part e.0) e.1) (enumerate_from 0 m.columns)
 
 -- no part is too large
 abbrev pub AreSmall : Model → List ℕ → Type 0
@@ -279,3 +273,28 @@ pub columns_all : (m : Model) (part : List ℕ) (items : List Column) (j : ℕ) 
 columns_all m part items j e l h =
     subst (λ (cs : List Column). AllByRecursion (λ d. IsStrictColumn (part_of part d.0) d.1) (enumerate_from 0 cs)) e
     (all_taken (λ (d : ℕ × Column). IsStrictColumn (part_of part d.0) d.1) (enumerate_from 0 items) j (omega (arith, l, length-enumerate_from 0 items)) h)
+
+-- ---- where faults are
+first_within : {X : Type 0} (P : X → Type 0) (xs : List X) (i : ℕ) (x : X) → IsFirstNot P xs i x → i < length xs
+first_within P xs i x h = omega (arith, ap length h.whole, length-append h.before (x ∷ h.after), h.place)
+
+column_within : (F : ℕ → Column → Type 0) (m : Model) (part : List ℕ) (j : ℕ) → IsFirstColumn F m part j → j < length m.columns
+column_within F m part j h = omega (arith, first_within _ (enumerate_from 0 m.columns) j (j, h.column) h.first, length-enumerate_from 0 m.columns)
+
+-- the row of a fault is one of the model's
+pub fault_row : (m : Model) (part : List ℕ) (f : SplitFault) → IsSplitFault m part f → ForSome (row_of f) (λ i. i < length m.rows)
+fault_row m part (Joins i a b) h = λ k e. let same : i ≡ k = cc in subst (λ (n : ℕ). n < length m.rows) same (first_within _ m.rows i h.row h.first)
+fault_row m part (IntegerInBlock j) h = λ k e. absurd cc
+fault_row m part (IntegerOpen j) h = λ k e. absurd cc
+fault_row m part (OpenMaster j) h = λ k e. absurd cc
+fault_row m part (TooLarge b size) h = λ k e. absurd cc
+fault_row m part OutOfMemory h = λ k e. absurd cc
+
+-- and so is its column
+pub fault_column : (m : Model) (part : List ℕ) (f : SplitFault) → IsSplitFault m part f → ForSome (column_of f) (λ j. j < length m.columns)
+fault_column m part (Joins i a b) h = λ k e. absurd cc
+fault_column m part (IntegerInBlock j) h = λ k e. let same : j ≡ k = cc in subst (λ (n : ℕ). n < length m.columns) same (column_within _ m part j h)
+fault_column m part (IntegerOpen j) h = λ k e. let same : j ≡ k = cc in subst (λ (n : ℕ). n < length m.columns) same (column_within _ m part j h)
+fault_column m part (OpenMaster j) h = λ k e. let same : j ≡ k = cc in subst (λ (n : ℕ). n < length m.columns) same (column_within _ m part j h)
+fault_column m part (TooLarge b size) h = λ k e. absurd cc
+fault_column m part OutOfMemory h = λ k e. absurd cc

@@ -7,7 +7,7 @@ use Rattle.bz_model.specs.declared.records.Column.{Column}
 use Rattle.bz_model.specs.declared.records.Model.{Model}
 use Rattle.bz_model.specs.declared.records.Row.{Row}
 use Rattle.bz_model.specs.Parting.{part_of, blocks_of}
-use Rattle.bz_model.specs.Strict.{IsInOneBlock, IsStrictColumn, size_of}
+use Rattle.bz_model.specs.Strict.{AreStrictColumns, AreUnjoined, IsInOneBlock, IsStrictColumn, size_of}
 use Rattle.bz_split.specs.declared.faults.SplitFault.{SplitFault}
 use Rattle.bz_split.specs.declared.faults.SplitFault.TheVariants.{Joins, IntegerInBlock, IntegerOpen, OpenMaster, TooLarge, OutOfMemory}
 
@@ -56,15 +56,15 @@ pub record IsOpenMaster (own : ℕ) (column : Column) : Type 0 where
 
 -- no row joins blocks, and column j, the first that may not be where it is, has the fault F
 pub record IsFirstColumn (F : ℕ → Column → Type 0) (m : Model) (part : List ℕ) (j : ℕ) : Type 0 where
-  pub rows : AllByRecursion (λ row. IsInOneBlock part row.terms) m.rows
+  pub rows : AreUnjoined m part
   pub column : Column
   pub first : IsFirstNot (λ e. IsStrictColumn (part_of part e.0) e.1) (enumerate_from 0 m.columns) j (j, column)
   pub fault : F (part_of part j) column
 
 -- no row joins blocks, each column may be where it is, and part b, the first that is too large, has this size
 pub record IsFirstLarge (m : Model) (part : List ℕ) (b size : ℕ) : Type 0 where
-  pub rows : AllByRecursion (λ row. IsInOneBlock part row.terms) m.rows
-  pub columns : AllByRecursion (λ e. IsStrictColumn (part_of part e.0) e.1) (enumerate_from 0 m.columns)
+  pub rows : AreUnjoined m part
+  pub columns : AreStrictColumns m part
   pub there : b ≤ blocks_of part
   pub others : (k : ℕ) → k < b → size_of m part k ≤ 1024
   pub large : 1024 < size

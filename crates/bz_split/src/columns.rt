@@ -1,15 +1,13 @@
 //! Columns that may not be where they are.
 ghost use Rattle.std.specs.Prelude.{◌≡◌, length, MatchOption};
-ghost use Rattle.std.specs.List.{AllByRecursion, enumerate_from};
-ghost use Rattle.bz_model.specs.Limits.{IsWithinLimits};
-ghost use Rattle.bz_model.specs.Parting.{part_of};
-ghost use Rattle.bz_model.specs.Strict.{IsInOneBlock, IsStrictColumn};
+ghost use Rattle.bz_model.specs.Strict.{AreStrictColumns, AreUnjoined, IsStrictColumn};
 ghost use Rattle.bz_split.specs.SplitFaults.{IsColumnFault, IsSplitFault};
 
 use crate::faults::SplitFault;
 use bz_model::{Column, Model};
 
-/// What is wrong with a column in the part `own`: an integer column in a block, or one with no two bounds in the master.
+/// What is wrong with a column in the part `own`: an integer column in a block, or one with no two bounds in the
+/// master.
 fn column_fault(own: u32, j: u32, column: &Column) -> Option<SplitFault>
     ensures { MatchOption result (IsStrictColumn own column.now) (IsColumnFault own j column.now) }
 {
@@ -27,9 +25,8 @@ fn column_fault(own: u32, j: u32, column: &Column) -> Option<SplitFault>
 /// What is wrong with the first column that may not be where it is.
 pub(crate) fn first_column_fault(model: &Model, part: &[u32]) -> Option<SplitFault>
     requires numbers { length part.now ≡ length model.now.columns }
-    requires limits { IsWithinLimits model.now }
-    requires rows { AllByRecursion (λ row. IsInOneBlock part.now row.terms) model.now.rows }
-    ensures { MatchOption result (AllByRecursion (λ e. IsStrictColumn (part_of part.now e.0) e.1) (enumerate_from 0 model.now.columns)) (IsSplitFault model.now part.now) }
+    requires rows { AreUnjoined model.now part.now }
+    ensures { MatchOption result (AreStrictColumns model.now part.now) (IsSplitFault model.now part.now) }
 {
     for (j, column) in model.columns.as_slice().iter().enumerate() {
         if let Some(fault) = column_fault(part[j], j as u32, column) {

@@ -1,27 +1,20 @@
 //! How many rows each part has.
-ghost use Rattle.std.specs.Prelude.{ℕ, ◌≡◌, ◌+◌, ◌≤◌, length, slice_index_or, IfOk};
-ghost use Rattle.bz_model.specs.Limits.{IsWithinLimits};
-ghost use Rattle.bz_model.specs.Parting.{blocks_of};
-ghost use Rattle.bz_model.specs.Strict.{HasItsColumns, IsPartition};
-ghost use Rattle.bz_split.specs.Sizes.{rows_of_part};
+ghost use Rattle.std.specs.Prelude.{IfOk};
+ghost use Rattle.bz_split.specs.Counts.{AreRowCounts};
 
-use bz_model::{Model, greatest, home};
+use bz_model::Split;
 use bz_num::OutOfMemory;
 use std::alloc::Global;
 
-/// How many rows each part has: the master's number first, and then one number per block, in order. A row belongs to
-/// the block of its first column in a block, and to the master where it has none. The error is want of memory.
-pub fn rows_by_part(alloc: Global, model: &Model, part: &[u32]) -> Result<Vec<u32>, OutOfMemory>
-    requires indexes { HasItsColumns model.now }
-    requires partition { IsPartition model.now part.now }
-    requires limits { IsWithinLimits model.now }
-    ensures parts { IfOk result (λ counts. length counts.items ≡ blocks_of part.now + 1) }
-    ensures rows { IfOk result (λ counts. (b : ℕ) → b ≤ blocks_of part.now → slice_index_or counts.items b 0 ≡ rows_of_part model.now part.now b) }
+/// How many rows each part of a split has: the master's number first, and then one number per block, in order. A row
+/// belongs to the block of its first column in a block, and to the master where it has none. The error is want of
+/// memory.
+pub fn rows_by_part(alloc: Global, split: &Split) -> Result<Vec<u32>, OutOfMemory>
+    ensures { IfOk result (λ counts. AreRowCounts split.now counts.items) }
 {
-    let mut counts = vec![in alloc; 0; greatest(part) as usize + 1]?;
-    for row in model.rows.as_slice() {
-        let b = home(part, &row.terms);
-        counts[b as usize] += 1;
+    let mut counts = vec![in alloc; 0; split.blocks() as usize + 1]?;
+    for home in split.homes() {
+        counts[*home as usize] += 1;
     }
     Ok(counts)
 }

@@ -1,7 +1,4 @@
 //! Why there is no split.
-use bz_model::Model;
-use bz_num::Items;
-
 /// Why there is no split. Where there are several reasons it is the first in the order of these kinds, but that the
 /// kinds about one column are tested column by column.
 #[derive(Clone, Copy, Debug, PartialEq, Eq)]
@@ -9,7 +6,8 @@ pub enum SplitFault {
     /// A row has columns of two blocks: the first such row, the block of its first column in a block, and the block of
     /// its first column in another.
     Joins { row: u32, a: u32, b: u32 },
-    /// An integer column is in a block: the first column, by its place in the file, that has one of the faults on columns.
+    /// An integer column is in a block: the first column, by its place in the file, that has one of the faults on
+    /// columns.
     IntegerInBlock { column: u32 },
     /// An integer column of the master lacks a bound.
     IntegerOpen { column: u32 },
@@ -20,15 +18,4 @@ pub enum SplitFault {
     TooLarge { part: u32, count: u32 },
     /// There is no memory.
     OutOfMemory,
-}
-
-/// A model and a partition that gave no split, handed back as they were, and why.
-#[derive(Drop)]
-pub struct Unsplit {
-    /// The model that was given.
-    pub model: Model,
-    /// The part of each column that was given.
-    pub part: Items<u32>,
-    /// Why there is no split.
-    pub fault: SplitFault,
 }

@@ -10,8 +10,10 @@ mod sizes;
 mod splitting;
 #[cfg(test)]
 mod tests;
+mod unsplit;
 
 pub use counts::rows_by_part;
-pub use faults::{SplitFault, Unsplit};
+pub use faults::SplitFault;
 pub use laws::split_faults_are_unique;
 pub use splitting::split;
+pub use unsplit::Unsplit;

@@ -1,14 +1,14 @@
 //! The split of a model by a partition.
 ghost use Rattle.std.specs.Prelude.{◌≡◌, ◌⊎◌, IfErr, IfOk, MatchOption};
-ghost use Rattle.bz_model.specs.Limits.{IsWithinLimits};
 ghost use Rattle.bz_model.specs.Strict.{HasItsColumns, IsPartition, IsStrict};
 ghost use Rattle.bz_split.specs.SplitFaults.{IsSplitFault};
 ghost use Rattle.bz_split.specs.declared.faults.SplitFault.TheVariants.{OutOfMemory};
 
 use crate::columns::first_column_fault;
-use crate::faults::{SplitFault, Unsplit};
+use crate::faults::SplitFault;
 use crate::rows::first_joined_row;
 use crate::sizes::first_too_large;
+use crate::unsplit::Unsplit;
 use bz_model::Model;
 use bz_num::Items;
 use std::alloc::Global;
@@ -17,7 +17,6 @@ use std::alloc::Global;
 fn find_fault(model: &Model, part: &[u32]) -> Option<SplitFault>
     requires indexes { HasItsColumns model.now }
     requires partition { IsPartition model.now part.now }
-    requires limits { IsWithinLimits model.now }
     ensures { MatchOption result (IsStrict model.now part.now) (IsSplitFault model.now part.now) }
 {
     if let Some(fault) = first_joined_row(model, part) {
@@ -35,7 +34,6 @@ fn find_fault(model: &Model, part: &[u32]) -> Option<SplitFault>
 pub fn split(alloc: Global, model: Model, part: Items<u32>) -> Result<bz_model::Split, Unsplit>
     requires indexes { HasItsColumns model }
     requires partition { IsPartition model part }
-    requires limits { IsWithinLimits model }
     ensures ok { IfOk result (λ s. s ≡ record { model = model; part = part }) }
     ensures strict { IfOk result (λ _. IsStrict model part) }
     ensures fault { IfErr result (λ u. (u.fault ≡ OutOfMemory) ⊎ IsSplitFault model part u.fault) }
@@ -45,9 +43,12 @@ pub fn split(alloc: Global, model: Model, part: Items<u32>) -> Result<bz_model::
     if let Some(fault) = find_fault(&model, part.as_slice()) {
         return Err(Unsplit { model, part, fault });
     }
-    bz_model::Split::new(alloc, model, part).map_err(|back| Unsplit {
-        model: back.model,
-        part: back.part,
-        fault: SplitFault::OutOfMemory,
-    })
+    match bz_model::Split::new(alloc, model, part) {
+        Ok(split) => Ok(split),
+        Err(back) => Err(Unsplit {
+            model: back.model,
+            part: back.part,
+            fault: SplitFault::OutOfMemory,
+        }),
+    }
 }

@@ -39,7 +39,8 @@ fn columns(alloc: Global, x: Column, y: Column) -> Result<Items<Column>, OutOfMe
 /// Adds a row of these terms with a lower side alone.
 fn push_row(alloc: Global, rows: &mut Vec<Row>, terms: SparseRow) -> Result<(), OutOfMemory>
     requires { AllBelow 3 terms }
-    ensures columns { IfOk result (λ _. AllByRecursion (λ row. AllBelow 3 row.terms) rows.old.items → AllByRecursion (λ row. AllBelow 3 row.terms) rows.new.items) }
+    ensures columns { IfOk result (λ _. AllByRecursion (λ row. AllBelow 3 row.terms) rows.old.items
+        → AllByRecursion (λ row. AllBelow 3 row.terms) rows.new.items) }
     ensures count { IfOk result (λ _. length rows.new.items ≡ length rows.old.items + 1) }
 {
     let row = Row {
@@ -87,6 +88,7 @@ fn model(
     joins: bool,
     of_x: usize,
 ) -> Result<Model, OutOfMemory>
+    requires { of_x < 2 ^ 16 }
     ensures indexes { IfOk result HasItsColumns }
     ensures columns { IfOk result (λ model. length model.columns ≡ 3) }
     ensures rows { IfOk result (λ model. length model.rows ≤ 3 + of_x) }
@@ -185,14 +187,19 @@ fn counts_the_box_of_an_integer_column(rt: HostRuntime) -> Result<(), Fail> {
     Ok(())
 }
 
-/// How many rows the master, block 1 and block 2 have in the model of these rows, where there are three numbers.
-fn counts_of(alloc: Global, joins: bool, of_x: usize) -> Result<Option<[u32; 3]>, OutOfMemory>
+/// How many rows the master, block 1 and block 2 have in the split of the model with so many rows of x, where there are
+/// three numbers.
+fn counts_of(alloc: Global, of_x: usize) -> Result<Option<[u32; 3]>, OutOfMemory>
     requires { of_x < 2 ^ 16 }
 {
     let x = column(alloc, true, true)?;
     let y = column(alloc, false, false)?;
-    let model = model(alloc, x, y, joins, of_x)?;
-    let counts = rows_by_part(alloc, &model, &[0, 2, 1])?;
+    let model = model(alloc, x, y, false, of_x)?;
+    let part = Items::from_vec(Vec::from_slice(alloc, &[0, 2, 1])?);
+    let Ok(split) = split(alloc, model, part) else {
+        return Ok(None);
+    };
+    let counts = rows_by_part(alloc, &split)?;
     match counts.as_slice() {
         [master, first, second] => Ok(Some([*master, *first, *second])),
         _ => Ok(None),
@@ -202,8 +209,7 @@ fn counts_of(alloc: Global, joins: bool, of_x: usize) -> Result<Option<[u32; 3]>
 #[test]
 fn counts_rows_by_part(rt: HostRuntime) -> Result<(), Fail> {
     let alloc = rt.alloc();
-    assert_eq!(rt; counts_of(alloc, false, 0)?, Some([0, 1, 1]));
-    assert_eq!(rt; counts_of(alloc, false, 3)?, Some([3, 1, 1]));
-    assert_eq!(rt; counts_of(alloc, true, 1)?, Some([1, 1, 2]));
+    assert_eq!(rt; counts_of(alloc, 0)?, Some([0, 1, 1]));
+    assert_eq!(rt; counts_of(alloc, 3)?, Some([3, 1, 1]));
     Ok(())
 }

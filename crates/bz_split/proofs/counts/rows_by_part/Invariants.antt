@@ -3,5 +3,5 @@ use Rattle.std.proofs.Common.{drop}
 use Rattle.bz_split.proofs.RowCounts.{AreCounts}
 use Rattle.bz_split.proofs.counts.rows_by_part.Given as goal
 
-abbrev pub invariant-loop-row : goal.invariant-loop-row
-invariant-loop-row l = AreCounts l.part l.counts.items (drop l.row-index l.row-items) l.row-items
+abbrev pub invariant-loop-home : goal.invariant-loop-home
+invariant-loop-home l = AreCounts l.split.part l.counts.items (drop l.home-index l.home-items) l.home-items

@@ -7,7 +7,7 @@ use Rattle.bz_model.specs.declared.records.Row.{Row}
 use Rattle.bz_model.specs.Parting.{home_of, part_of, sides_of_column, sides_of_row}
 use Rattle.bz_model.specs.PartLists.{bounds_at, sides_of_columns, sides_of_rows}
 use Rattle.bz_model.specs.Strict.{size_of}
-use Rattle.bz_split.specs.Sizes.{column_size, row_size, sum_of}
+use Rattle.bz_model.specs.Sizes.{column_size, row_size, sum_of}
 
 -- what a test lets pass of a list with one more item in front
 picked : {X Y : Type 0} (f : X → List Y) (p : X → Bool) (x : X) (xs : List X) (b : Bool) → p x ≡ b →

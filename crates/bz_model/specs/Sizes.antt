@@ -1,9 +1,8 @@
--- How many rows belong to a part; and how many inequalities rows and columns give it, as sums.
+-- How many inequalities rows and columns give a part, as sums.
 use Rattle.std.specs.Prelude.{ℕ, ◌==◌, ◌+◌, List, [], ◌∷◌, length, if◌then◌else◌}
 use Rattle.bz_model.specs.declared.records.Column.{Column}
-use Rattle.bz_model.specs.declared.records.Model.{Model}
 use Rattle.bz_model.specs.declared.records.Row.{Row}
-use Rattle.bz_model.specs.Parting.{home_of, rows_in, sides_of_row}
+use Rattle.bz_model.specs.Parting.{home_of, sides_of_row}
 use Rattle.bz_model.specs.PartLists.{bounds_at}
 
 -- the sum of a number of each item
@@ -18,7 +17,3 @@ row_size part b row = (if home_of part row.terms == b then length (sides_of_row 
 -- how many inequalities of part b a column gives, and how many sides of the master's box where it is an integer
 abbrev pub column_size : List ℕ → ℕ → ℕ × Column → ℕ
 column_size part b e = length (bounds_at part e b) + (if b == 0 then (if e.1.integer then 2 else 0) else 0)
-
--- how many of the model's rows belong to a part
-abbrev pub rows_of_part : Model → List ℕ → ℕ → ℕ
-rows_of_part m part b = length (rows_in m part b)
