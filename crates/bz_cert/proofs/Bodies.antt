@@ -1,5 +1,5 @@
 -- Certificates from what was read, by the verdict.
-use Rattle.std.proofs.Common.{◌≡◌, ◌≢◌, ◌∷◌, ◌++◌, ◌∙◌, [], ℕ, suc, ◌+◌, add-zero, ℤ, pos, List, Some, None, inl, inr, ap, sym, refl, subst, arith, append-nil, append_assoc, length, map}
+use Rattle.std.proofs.Common.{◌≡◌, ◌≢◌, ◌∷◌, ◌++◌, ◌∙◌, [], ℕ, add-zero, ℤ, pos, List, Some, None, inl, inr, ap, sym, refl, subst, arith, append-nil, append_assoc, length, map}
 use Rattle.std.specs.List.{AllByRecursion}
 use Rattle.bz_model.specs.declared.BlockPart.{BlockPart}
 use Rattle.bz_model.specs.declared.Master.{Master}
@@ -9,7 +9,7 @@ use Rattle.bz_cert.specs.declared.records.Certificate.{Certificate}
 use Rattle.bz_cert.specs.declared.records.Verdict.{Verdict}
 use Rattle.bz_cert.specs.declared.words.Word.{Word}
 use Rattle.bz_cert.specs.Shapes.{AreCuts, AreNodes, IsNarrowNode}
-use Rattle.bz_cert.specs.CertText.{CertLine, IsWritableCut, IsWritableNode, block_lines, bound_lines, cut_line, laid_out, line_with, node_line}
+use Rattle.bz_cert.specs.CertText.{CertLine, IsWritableNode, block_lines, bound_lines, cut_line, laid_out, line_with, node_line}
 use Rattle.bz_cert.specs.CertFaults.{BreaksTree, IsIn, Passes, Standing}
 use Rattle.bz_cert.specs.CertReading.{Awaits, PassFrom, Reads, ReadsLine, advance, advance_all}
 use Rattle.bz_cert.specs.CertPhases.{AwaitsBlocks, AwaitsBound, ReadsBlocksTo, ReadsBody, ReadsBound, start}

@@ -1,11 +1,12 @@
 -- What is decided of the numbers of a line: whether they are as many as its word asks for, and in order.
-use Rattle.std.proofs.Common.{◌≡◌, ◌∷◌, ◌++◌, ◌∙◌, [], ℕ, suc, ◌+◌, ◌<◌, ◌≤◌, ◌^◌, ◌⊎◌, inl, inr, ℤ, pos, negsuc, List, Bool, true, false, length, drop, ap, sym, refl, subst, arith, append-nil, bytes_eq}
+use Rattle.std.proofs.Common.{◌≡◌, ◌∷◌, ◌++◌, ◌∙◌, [], ℕ, suc, ◌+◌, ◌<◌, ◌≤◌, ◌^◌, inl, inr, ℤ, pos, negsuc, List, Bool, true, false, length, drop, ap, sym, refl, subst, arith, append-nil, bytes_eq}
 use Rattle.std.specs.Bool.{Decides}
 use Rattle.std.specs.Int.RustNames.{unsigned_abs}
-use Rattle.std.specs.List.{AllByRecursion}
-use Rattle.std.proofs.lemmas.Bool.{cases_eq, cases_lt}
+use Rattle.std.proofs.lemmas.Bool.{cases_eq}
 use Rattle.std.proofs.lemmas.Slice.Eq.{bytes_eq-Decides}
 use Rattle.bz_algebra.specs.Numbers.{IsNarrow}
+use Rattle.bz_cut.proofs.CutDecided.{narrow_told}
+use Rattle.bz_first.proofs.Deciding.{Told, at_most_told, both, less_told}
 use Rattle.bz_num.specs.Row.{IsEntryFrom, IsSparse, IsSparseFrom}
 use Rattle.bz_cert.specs.declared.records.Verdict.{Verdict}
 use Rattle.bz_cert.specs.declared.records.Verdict.TheVariants.{Optimal, Infeasible, Unbounded}
@@ -16,42 +17,12 @@ use Rattle.bz_cert.proofs.ListIndexes.{index_below}
 use Rattle.bz_cert.proofs.ListLemmas.{same_head, same_tail}
 use Rattle.bz_cert.proofs.SparseLists.{pair_numbers, same_index, same_list}
 
--- it is so, or it is not
-abbrev pub Told : Type 0 → Type 0
-Told P = P ⊎ (P → ⊥)
-
 pub from_test : (b : Bool) (P : Type 0) → Decides b P → Told P
 from_test true P d = inl (d.0 refl)
 from_test false P d = inr (λ p. let t : false ≡ true = d.1 p in absurd (cc))
 
 pub bytes_told : (xs ys : List ℕ) → Told (xs ≡ ys)
 bytes_told xs ys = from_test (bytes_eq xs ys) (xs ≡ ys) (bytes_eq-Decides xs ys)
-
-pub less_told : (m n : ℕ) → Told (m < n)
-less_told m n = by (cases_lt m n)
-  where
-    by : (m < n) ⊎ (n ≤ m) → Told (m < n)
-    by (inl l) = inl l
-    by (inr g) = inr (λ l. absurd (omega (arith, l, g)))
-
-pub at_most_told : (m n : ℕ) → Told (m ≤ n)
-at_most_told m n = by (cases_lt n m)
-  where
-    by : (n < m) ⊎ (m ≤ n) → Told (m ≤ n)
-    by (inl l) = inr (λ g. absurd (omega (arith, l, g)))
-    by (inr g) = inl g
-
-pub both : {P Q : Type 0} → Told P → Told Q → Told (P × Q)
-both (inl p) (inl q) = inl (p, q)
-both (inl p) (inr n) = inr (λ h. n h.1)
-both (inr n) q = inr (λ h. n h.0)
-
-pub all_told : {X : Type 0} (P : X → Type 0) (told : (x : X) → Told (P x)) (xs : List X) → Told (AllByRecursion P xs)
-all_told P told [] = inl tt
-all_told P told (x ∷ xs) = both (told x) (all_told P told xs)
-
-pub narrow_told : (z : ℤ) → Told (IsNarrow z)
-narrow_told z = less_told (unsigned_abs z) (2 ^ 127)
 
 pub index_told : (z : ℤ) → Told (IsIndex z)
 index_told (pos n) = by (less_told n (2 ^ 32))
@@ -72,7 +43,7 @@ entry_told low e = by (at_most_told low e.0) (less_told 0 (unsigned_abs e.1)) (n
 
 sparse_from_told : (low : ℕ) (es : List (ℕ × ℤ)) → Told (IsSparseFrom low es)
 sparse_from_told low [] = inl tt
-sparse_from_told low (e ∷ es) = both (entry_told low e) (sparse_from_told (suc e.0) es)
+sparse_from_told low (e ∷ es) = both (entry_told low e) (λ h. sparse_from_told (suc e.0) es)
 
 -- so many pairs stand in front of the numbers
 abbrev HasPairs : ℕ → List ℤ → Type 0

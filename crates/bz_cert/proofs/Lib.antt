@@ -12,6 +12,7 @@ pub mod PassingLines
 pub mod Phases
 pub mod Refusals
 pub mod RoundTrip
+pub mod ShortLists
 pub mod SparseLists
 pub mod Standings
 pub mod Steps

@@ -11,7 +11,9 @@ use Rattle.bz_cert.specs.declared.words.Word.{Word}
 use Rattle.bz_cert.specs.CertText.{CertLine, laid_out, line_bytes, line_with, word_bytes}
 use Rattle.bz_cert.specs.CertFaults.{AreEnough, AreInOrder, BeginsWith, BeginsWithLine, BreaksFirst, BreaksTree, FailsAtOnce, IsIn, IsIndex, IsTooMany, Passes, Standing, indexes_of, tests_behind, words_behind}
 use Rattle.bz_cert.specs.CertReading.{AreNumbers, AreNumbersOf, Awaits, BeginsWithCertLine, BeginsWithWord, FailsFrom, IsSpelled, PassFrom, advance, advance_all}
-use Rattle.bz_cert.proofs.Decisions.{Told, all_told, bytes_told, enough_told, index_told, many_told, narrow_told, order_told, tree_told}
+use Rattle.bz_first.proofs.Deciding.{Told, all_told}
+use Rattle.bz_cut.proofs.CutDecided.{narrow_told}
+use Rattle.bz_cert.proofs.Decisions.{bytes_told, enough_told, index_told, many_told, order_told, tree_told}
 use Rattle.bz_cert.proofs.Failing.{breaks_tree, field_is_word, lacks_feed, line_of_numbers, no_numbers, no_word, numbers_fail, passes}
 use Rattle.bz_cert.proofs.ListLemmas.{same_head}
 use Rattle.bz_cert.proofs.NumberTexts.{minus_value, none_before, none_here, plain_value, same_spelling}
@@ -111,7 +113,7 @@ numbers_of_told word bytes = by (numbers_told (length bytes) bytes (omega arith)
         inr (λ h. never (subst (λ (ms : List ℤ). AllByRecursion IsIndex (indexes_of word ms)) (same_spelling bytes h.0 ns h.1.numbers_are are) h.1.indexes))
 
     by : Told (SpellNumbers bytes) → Told (SpellNumbersOf word bytes)
-    by (inl (ns, are)) = indexed ns are (all_told IsIndex index_told (indexes_of word ns))
+    by (inl (ns, are)) = indexed ns are (all_told IsIndex (indexes_of word ns) index_told)
     by (inr none) = inr (λ h. none (h.0, h.1.numbers_are))
 
 -- the field is some word

@@ -2,7 +2,6 @@
 use Rattle.std.proofs.Common.{◌≡◌, ◌∷◌, ◌++◌, ◌∙◌, [], ℕ, suc, ◌-◌, ◌*◌, ℤ, pos, nat_abs, List, length, take, drop, get_or, arith, ◌<◌, ◌≤◌, ◌^◌, ap, sym, refl, subst, append-nil}
 use Rattle.std.specs.List.{AllByRecursion}
 use Rattle.std.proofs.Math.Seq.{take-length}
-use Rattle.bz_algebra.specs.Numbers.{IsNarrow}
 use Rattle.bz_algebra.specs.Sums.{AllBelow}
 use Rattle.bz_num.specs.Row.{IsSparse}
 use Rattle.bz_cut.specs.declared.Cut.{Cut}

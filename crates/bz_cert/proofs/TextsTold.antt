@@ -19,7 +19,8 @@ use Rattle.bz_cert.specs.CertFaults.{BeginsWith, BeginsWithLine, IsCertFault, Is
 use Rattle.bz_cert.specs.CertPhases.{start}
 use Rattle.bz_cert.specs.CertReading.{PassFrom, advance, advance_all}
 use Rattle.bz_cert.proofs.Bodies.{first_of_point}
-use Rattle.bz_cert.proofs.Decisions.{Told, bytes_told}
+use Rattle.bz_first.proofs.Deciding.{Told}
+use Rattle.bz_cert.proofs.Decisions.{bytes_told}
 use Rattle.bz_cert.proofs.LineOutcomes.{CutAt, RestTold, begins_with_front, cut_at, rest_told}
 use Rattle.bz_cert.proofs.PassingLines.{CutsOf, EndsWhole, PassBehind, behind_as, cuts_of, known, no_number, not_last, nothing_left, possible_word}
 use Rattle.bz_cert.proofs.Standings.{fails_behind_head}

@@ -6,6 +6,9 @@ use Rattle.bz_num.specs.Row.{IsSparse}
 use Rattle.bz_cut.specs.declared.Cut.{Cut}
 use Rattle.bz_tree.specs.declared.TreeNode.{TreeNode}
 use Rattle.bz_cert.specs.declared.records.Certificate.{Certificate}
+use Rattle.bz_model.specs.Splits.{Decomposition, IsSplit}
+use Rattle.bz_cert.specs.Passing.{Passes}
+use Rattle.bz_cert.specs.Shapes.{IsShaped}
 use Rattle.bz_cert.specs.CertText.{CertLine, HasFewBlocks, laid_out, spelled}
 
 -- the numbers, each behind one blank, stand behind the bytes of before
@@ -48,3 +51,14 @@ pub record HasFewItems (c : Certificate) : Type 0 where
   pub blocks : HasFewBlocks c.parts
   pub cuts : AllByRecursion HasShortLists c.cuts
   pub nodes : AllByRecursion HasShortList c.tree
+
+-- the certificate passes over some split
+pub record PassesSome (c : Certificate) : Type 0 where
+  pub split : Decomposition
+  pub is_split : IsSplit split
+  pub passes : Passes split.model split.part c
+
+-- A certificate that passes over a split has fewer than 2 ^ 32 blocks, and as many pairs in each sparse list.
+abbrev pub PassingIsShort : Type 0
+PassingIsShort = (c : Certificate) → IsShaped c → PassesSome c →
+    AllByRecursion IsIndexedCut c.cuts → AllByRecursion IsIndexedNode c.tree → HasFewItems c

@@ -3,6 +3,7 @@ ghost use Rattle.std.specs.Prelude.{ℕ, List, Result, Ok, Err, ◌≡◌, ◌�
 ghost use Rattle.bz_cert.specs.CertFaults.{IsCertFault};
 ghost use Rattle.bz_cert.specs.CertReading.{Answers};
 ghost use Rattle.bz_cert.specs.CertText.{IsCertText};
+ghost use Rattle.bz_cert.specs.CertWriting.{PassingIsShort};
 ghost use Rattle.bz_cert.specs.declared.faults.CertKind.{CertKind};
 ghost use Rattle.bz_cert.specs.declared.faults.CertStop.{CertStop};
 ghost use Rattle.bz_cert.specs.declared.records.Certificate.{Certificate};
@@ -32,4 +33,10 @@ pub fn text_has_one_fault()
 /// there was no memory. Nothing runs.
 pub fn what_is_written_is_read()
     ensures { (text : List ℕ) (c : Certificate) (r : Result Certificate CertStop) → IsCertText text c → Answers (IsCertText text) (IsCertFault text) r → (r ≡ Ok c) ⊎ (r ≡ Err CertStop.OutOfMemory) }
+{}
+
+/// A certificate that passes over a split is short enough for its text: it has fewer than 2^32 blocks, and as many pairs in
+/// each sparse list. Nothing runs.
+pub fn what_passes_is_short()
+    ensures { PassingIsShort }
 {}

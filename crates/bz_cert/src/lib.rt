@@ -24,7 +24,7 @@ mod writing_tests;
 pub use faults::{CertFault, CertKind, CertStop};
 pub use laws::{
     each_text_has_an_outcome, text_has_one_certificate, text_has_one_fault, texts_have_no_fault,
-    what_is_written_is_read,
+    what_is_written_is_read, what_passes_is_short,
 };
 pub use reader::read_cert;
 pub use records::{Certificate, Verdict};

@@ -2,7 +2,7 @@
 ghost use Rattle.std.specs.Prelude.{IfOk, OnOk, ◌≡◌, ◌∷◌, ◌++◌, [], map};
 ghost use Rattle.std.specs.List.{AllByRecursion};
 ghost use Rattle.bz_cert.specs.CertText.{IsCertText, block_lines, bound_lines, cert_lines, cert_text, cut_line, head_bytes, line_with, master_line, node_line};
-ghost use Rattle.bz_cert.specs.CertWriting.{Adds, HasFewItems, IsIndexedCut, IsIndexedNode};
+ghost use Rattle.bz_cert.specs.CertWriting.{Adds, HasFewItems, IsIndexedCut, IsIndexedNode, PassesSome};
 ghost use Rattle.bz_cert.specs.Shapes.{IsShaped};
 ghost use Rattle.bz_cert.specs.declared.words.Word.{Word};
 
@@ -109,11 +109,13 @@ fn write_body(out: &mut Vec<u8>, c: &Certificate) -> Result<(), AllocError>
 }
 
 /// The text of a certificate, which has what its verdict needs. It is the one text that is read as this certificate,
-/// where there are fewer than 2^32 blocks, and as many pairs in each sparse list.
+/// where there are fewer than 2^32 blocks, and as many pairs in each sparse list; and so is that of each certificate that
+/// passes over a split.
 pub fn write_cert(alloc: Global, c: &Certificate) -> Result<Vec<u8>, OutOfMemory>
     requires { IsShaped c.now }
     ensures text { IfOk result (λ text. text.items ≡ cert_text c.now) }
     ensures certificate { IfOk result (λ text. HasFewItems c.now → IsCertText text.items c.now) }
+    ensures passing { IfOk result (λ text. PassesSome c.now → IsCertText text.items c.now) }
 {
     let mut out = head(alloc, c.verdict)?;
     write_body(&mut out, c)?;

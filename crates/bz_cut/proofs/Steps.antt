@@ -1,10 +1,8 @@
 -- Steps of loops over lists.
-use Rattle.std.proofs.Common.{◌≡◌, refl, ap, ℕ, zero, suc, ◌+◌, ◌<◌, ◌≤◌, List, [], ◌∷◌, length, get_or, drop, arith, ℤ}
+use Rattle.std.proofs.Common.{◌≡◌, refl, ℕ, zero, suc, ◌<◌, List, [], ◌∷◌, length, get_or, arith, ℤ}
 use Rattle.std.specs.List.{AllByRecursion}
 use Rattle.bz_algebra.specs.Sums.{AllBelow}
-use Rattle.bz_num.specs.Fold.{pairs_at}
 use Rattle.bz_model.specs.declared.Ineq.{Ineq}
-use Rattle.bz_model.proofs.Sparse.{left_at, none_left}
 use Rattle.bz_cut.specs.Rows.{own_at, master_at, rhs_at, AreMultipliers}
 
 -- the places of multipliers are in the list

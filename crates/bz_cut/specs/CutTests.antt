@@ -22,6 +22,11 @@ form_tests m part cut =
     ∷ test Invalid (pos 0 ≤ℤ cut.p0)
     ∷ []
 
+-- its block is one of the model's, and its multipliers stand at inequalities of the block
+pub record HasPlaces (m : Model) (part : List ℕ) (cut : Cut) : Type 0 where
+  pub block : cut.block ≤ blocks_of part
+  pub mu : AreMultipliers (length (inequalities_of m part cut.block)) cut.mu
+
 -- on position i of the block the sum is minus `gcd p0` times the inner cost
 abbrev pub own_tests : Model → List ℕ → Cut → ℕ → List (Test CutFault)
 own_tests m part cut i =
@@ -38,14 +43,22 @@ master_tests m part cut i =
 -- the sum of the right sides is `gcd` times beta
 abbrev pub rhs_tests : Model → List ℕ → Cut → List (Test CutFault)
 rhs_tests m part cut =
-    equation Invalid Wide cut.mu (rhs_at (inequalities_of m part cut.block)) (cut.gcd *ℤ cut.beta) (cut.gcd *ℤ cut.beta)
+    equation Invalid Wide cut.mu (rhs_at (inequalities_of m part cut.block))
+    (cut.gcd *ℤ cut.beta) (cut.gcd *ℤ cut.beta)
+
+-- the equations on all positions of the block, and of the master
+abbrev pub own_equations : Model → List ℕ → Cut → List (Test CutFault)
+own_equations m part cut = each_below (width_of part cut.block) (own_tests m part cut)
+
+abbrev pub master_equations : Model → List ℕ → Cut → List (Test CutFault)
+master_equations m part cut = each_below (width_of part 0) (master_tests m part cut)
 
 -- the factor, and then the equations
 abbrev pub sum_tests : Model → List ℕ → Cut → List (Test CutFault)
 sum_tests m part cut =
     test Wide (IsNarrow (cut.gcd *ℤ cut.p0))
-    ∷ each_below (width_of part cut.block) (own_tests m part cut)
-    ++ each_below (width_of part 0) (master_tests m part cut)
+    ∷ own_equations m part cut
+    ++ master_equations m part cut
     ++ rhs_tests m part cut
 
 -- all tests of a cut

@@ -6,6 +6,7 @@ use Rattle.bz_num.specs.Fold.{IsNarrowSum, pairs_at}
 use Rattle.bz_model.specs.declared.Model.{Model}
 use Rattle.bz_model.specs.Parting.{width_of, terms_in, inequalities_of, inner_cost}
 use Rattle.bz_cut.specs.declared.records.Cut.{Cut}
+use Rattle.bz_cut.specs.Cuts.{IsValid}
 use Rattle.bz_cut.specs.Rows.{own_at, master_at, rhs_at}
 
 -- one equation of a cut or a leaf: the sum of the multipliers times f, and the product that it is compared with
@@ -22,3 +23,7 @@ pub record FitsCut (m : Model) (part : List ℕ) (cut : Cut) : Type 0 where
   pub master : (i : ℕ) → i < width_of part 0 →
       FitsEquation cut.mu (λ n. coef (master_at (inequalities_of m part cut.block) n) i) (cut.gcd *ℤ coef cut.alpha i)
   pub rhs : FitsEquation cut.mu (rhs_at (inequalities_of m part cut.block)) (cut.gcd *ℤ cut.beta)
+
+-- the cut is valid, and no sum or product is wide that tells so
+abbrev pub IsValidAndFits : Model → List ℕ → Cut → Type 0
+IsValidAndFits m part cut = IsValid m part cut × FitsCut m part cut

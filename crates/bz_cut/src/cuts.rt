@@ -2,17 +2,17 @@
 ghost use Rattle.std.specs.Prelude.{◌≡◌, ◌↔◌, ◌<◌, ◌≤◌, ◌*ℤ◌, ◌++◌, ◌∷◌, [], IsTrue, length};
 ghost use Rattle.bz_algebra.specs.Numbers.{IsNarrow};
 ghost use Rattle.bz_model.specs.Parting.{blocks_of, inequalities_of, width_of};
-ghost use Rattle.bz_cut.specs.Cuts.{IsValid};
-ghost use Rattle.bz_cut.specs.CutTests.{cut_tests, form_tests, master_tests, own_tests, rhs_tests, sum_tests};
-ghost use Rattle.bz_cut.specs.Fits.{FitsCut};
+ghost use Rattle.bz_cut.specs.CutTests.{HasPlaces, cut_tests, form_tests, master_equations, master_tests, own_equations, own_tests, rhs_tests, sum_tests};
+ghost use Rattle.bz_cut.specs.Fits.{IsValidAndFits};
 ghost use Rattle.bz_cut.specs.Rows.{AreMultipliers};
-ghost use Rattle.bz_first.specs.Tests.{Judges, each_below};
+ghost use Rattle.bz_first.specs.Tests.{Judges};
 
 use crate::faults::CutFault;
 use crate::judging::{judge_equation, judge_opposite, judge_product};
 use crate::lists::{all_below, are_multipliers};
 use crate::records::Cut;
 use crate::sums::{Terms, column_sum, rhs_sum};
+use bz_first::{PlaceTests, judge_below};
 use bz_model::Split;
 
 /// Whether the block is one of the split's.
@@ -44,61 +44,74 @@ fn judge_form(split: &Split, cut: &Cut) -> Result<(), CutFault>
     Ok(())
 }
 
-/// Tests the equation on a position of the block, where `factor` is `gcd p0`.
-fn judge_own_at(split: &Split, cut: &Cut, factor: i128, position: u32) -> Result<(), CutFault>
-    requires block { cut.now.block ≤ blocks_of split.now.part }
-    requires mu { AreMultipliers (length (inequalities_of split.now.model split.now.part cut.now.block)) cut.now.mu }
-    requires factor { factor ≡ cut.now.gcd *ℤ cut.now.p0 }
-    requires position { position < width_of split.now.part cut.now.block }
-    ensures { Judges (own_tests split.now.model split.now.part cut.now position) result }
-{
-    let rows = split.inequalities(cut.block);
-    let sum = column_sum(&cut.mu, rows, Terms::Own, position);
-    let cost = split.inner_cost(cut.block, position);
-    judge_opposite(sum, factor, cost, CutFault::Invalid, CutFault::Wide)
+/// The equations of a cut on the positions of its block.
+#[derive(Clone, Copy)]
+struct OwnEquations<'a> {
+    split: &'a Split,
+    cut: &'a Cut,
+    /// The cut's `gcd` times its `p0`.
+    factor: i128,
+}
+
+impl PlaceTests<CutFault> for OwnEquations<'_> {
+    ghost takes = { λ e position.
+        HasPlaces e.split.now.model e.split.now.part e.cut.now
+        × (e.factor ≡ e.cut.now.gcd *ℤ e.cut.now.p0)
+        × (position < width_of e.split.now.part e.cut.now.block) };
+
+    ghost tests = { λ e. own_tests e.split.now.model e.split.now.part e.cut.now };
+
+    fn judge_at(&self, position: u32) -> Result<(), CutFault> {
+        let cut = self.cut;
+        let rows = self.split.inequalities(cut.block);
+        let sum = column_sum(&cut.mu, rows, Terms::Own, position);
+        let cost = self.split.inner_cost(cut.block, position);
+        judge_opposite(sum, self.factor, cost, CutFault::Invalid, CutFault::Wide)
+    }
 }
 
 /// Tests the equations on the block's positions, where `factor` is `gcd p0`.
 fn judge_own(split: &Split, cut: &Cut, factor: i128) -> Result<(), CutFault>
-    requires block { cut.now.block ≤ blocks_of split.now.part }
-    requires mu { AreMultipliers (length (inequalities_of split.now.model split.now.part cut.now.block)) cut.now.mu }
+    requires places { HasPlaces split.now.model split.now.part cut.now }
     requires factor { factor ≡ cut.now.gcd *ℤ cut.now.p0 }
-    ensures { Judges (each_below (width_of split.now.part cut.now.block) (own_tests split.now.model split.now.part cut.now)) result }
+    ensures { Judges (own_equations split.now.model split.now.part cut.now) result }
 {
-    for position in 0..split.width(cut.block) {
-        judge_own_at(split, cut, factor, position)?;
-    }
-    Ok(())
+    let equations = OwnEquations { split, cut, factor };
+    judge_below(split.width(cut.block), &equations)
 }
 
-/// Tests the equation on a position of the master.
-fn judge_master_at(split: &Split, cut: &Cut, position: u32) -> Result<(), CutFault>
-    requires block { cut.now.block ≤ blocks_of split.now.part }
-    requires mu { AreMultipliers (length (inequalities_of split.now.model split.now.part cut.now.block)) cut.now.mu }
-    ensures { Judges (master_tests split.now.model split.now.part cut.now position) result }
-{
-    let rows = split.inequalities(cut.block);
-    let sum = column_sum(&cut.mu, rows, Terms::Master, position);
-    let number = cut.alpha.at(position);
-    judge_equation(sum, cut.gcd, number, CutFault::Invalid, CutFault::Wide)
+/// The equations of a cut on the positions of the master.
+#[derive(Clone, Copy)]
+struct MasterEquations<'a> {
+    split: &'a Split,
+    cut: &'a Cut,
+}
+
+impl PlaceTests<CutFault> for MasterEquations<'_> {
+    ghost takes = { λ e position. HasPlaces e.split.now.model e.split.now.part e.cut.now };
+
+    ghost tests = { λ e. master_tests e.split.now.model e.split.now.part e.cut.now };
+
+    fn judge_at(&self, position: u32) -> Result<(), CutFault> {
+        let cut = self.cut;
+        let rows = self.split.inequalities(cut.block);
+        let sum = column_sum(&cut.mu, rows, Terms::Master, position);
+        let number = cut.alpha.at(position);
+        judge_equation(sum, cut.gcd, number, CutFault::Invalid, CutFault::Wide)
+    }
 }
 
 /// Tests the equations on the master's positions.
 fn judge_master(split: &Split, cut: &Cut) -> Result<(), CutFault>
-    requires block { cut.now.block ≤ blocks_of split.now.part }
-    requires mu { AreMultipliers (length (inequalities_of split.now.model split.now.part cut.now.block)) cut.now.mu }
-    ensures { Judges (each_below (width_of split.now.part 0) (master_tests split.now.model split.now.part cut.now)) result }
+    requires { HasPlaces split.now.model split.now.part cut.now }
+    ensures { Judges (master_equations split.now.model split.now.part cut.now) result }
 {
-    for position in 0..split.width(0) {
-        judge_master_at(split, cut, position)?;
-    }
-    Ok(())
+    judge_below(split.width(0), &MasterEquations { split, cut })
 }
 
 /// Tests the equation of the right sides.
 fn judge_rhs(split: &Split, cut: &Cut) -> Result<(), CutFault>
-    requires block { cut.now.block ≤ blocks_of split.now.part }
-    requires mu { AreMultipliers (length (inequalities_of split.now.model split.now.part cut.now.block)) cut.now.mu }
+    requires { HasPlaces split.now.model split.now.part cut.now }
     ensures { Judges (rhs_tests split.now.model split.now.part cut.now) result }
 {
     let sum = rhs_sum(&cut.mu, split.inequalities(cut.block));
@@ -107,8 +120,7 @@ fn judge_rhs(split: &Split, cut: &Cut) -> Result<(), CutFault>
 
 /// Tests the factor and the equations.
 fn judge_equations(split: &Split, cut: &Cut) -> Result<(), CutFault>
-    requires block { cut.now.block ≤ blocks_of split.now.part }
-    requires mu { AreMultipliers (length (inequalities_of split.now.model split.now.part cut.now.block)) cut.now.mu }
+    requires { HasPlaces split.now.model split.now.part cut.now }
     ensures { Judges (sum_tests split.now.model split.now.part cut.now) result }
 {
     let factor = judge_product(cut.gcd, cut.p0, CutFault::Wide)?;
@@ -128,7 +140,7 @@ pub fn judge_cut(split: &Split, cut: &Cut) -> Result<(), CutFault>
 
 /// Whether the cut is valid, and no sum or product is wide that tells so. It takes no memory.
 pub fn fits_and_valid(split: &Split, cut: &Cut) -> bool
-    ensures { IsTrue result ↔ (IsValid split.now.model split.now.part cut.now × FitsCut split.now.model split.now.part cut.now) }
+    ensures { IsTrue result ↔ IsValidAndFits split.now.model split.now.part cut.now }
 {
     judge_cut(split, cut).is_ok()
 }

@@ -1,12 +1,11 @@
 //! Tests of sums, with whatever answers: `broken` where the numbers are not as tested, `wide` where a sum or a product
 //! that the test needs passes 2^127 - 1 in size. They take no memory.
-ghost use Rattle.std.specs.Prelude.{◌≡◌, ◌*ℤ◌, ◌≤ℤ◌, ℕ, ℤ, List, [], ◌∷◌, Ok, IfOk, IsTrue};
+ghost use Rattle.std.specs.Prelude.{◌≡◌, ◌*ℤ◌, ◌≤ℤ◌, ℤ, List, [], ◌∷◌, Ok, IfOk, IsTrue};
 ghost use Rattle.std.proofs.Math.IntN.{neg_ℤ};
 ghost use Rattle.bz_algebra.specs.Numbers.{IsNarrow};
-ghost use Rattle.bz_algebra.specs.Sums.{dot};
-ghost use Rattle.bz_num.specs.Fold.{IsNarrowSum, fold_of, pairs_at};
+ghost use Rattle.bz_num.specs.Fold.{IsNarrowSum, fold_of};
 ghost use Rattle.bz_first.specs.Tests.{Judges, test};
-ghost use Rattle.bz_cut.specs.SumTests.{equation, sum_is};
+ghost use Rattle.bz_cut.specs.SumTests.{JudgesSum, at_most, equation, sum_is};
 
 use bz_first::{judge_equal, judge_order};
 use bz_num::{WideSum, narrow_negation, narrow_product};
@@ -37,7 +36,7 @@ pub fn judge_sum<F: Copy>(
     broken: F,
     wide: F,
 ) -> Result<(), F>
-    ensures { (multipliers : List (ℕ × ℤ)) → (f : ℕ → ℤ) → sum ≡ fold_of (pairs_at multipliers f) → Judges (sum_is broken wide multipliers f number) result }
+    ensures { JudgesSum sum (λ multipliers f. sum_is broken wide multipliers f number) result }
 {
     let found = judge_fold(sum, wide)?;
     judge_equal(found, number, broken)
@@ -51,7 +50,7 @@ pub fn judge_equation<F: Copy>(
     broken: F,
     wide: F,
 ) -> Result<(), F>
-    ensures { (multipliers : List (ℕ × ℤ)) → (f : ℕ → ℤ) → sum ≡ fold_of (pairs_at multipliers f) → Judges (equation broken wide multipliers f (a *ℤ b) (a *ℤ b)) result }
+    ensures { JudgesSum sum (λ multipliers f. equation broken wide multipliers f (a *ℤ b) (a *ℤ b)) result }
 {
     let found = judge_fold(sum, wide)?;
     let product = judge_product(a, b, wide)?;
@@ -67,7 +66,7 @@ pub fn judge_opposite<F: Copy>(
     broken: F,
     wide: F,
 ) -> Result<(), F>
-    ensures { (multipliers : List (ℕ × ℤ)) → (f : ℕ → ℤ) → sum ≡ fold_of (pairs_at multipliers f) → Judges (equation broken wide multipliers f (a *ℤ b) (neg_ℤ (a *ℤ b))) result }
+    ensures { JudgesSum sum (λ multipliers f. equation broken wide multipliers f (a *ℤ b) (neg_ℤ (a *ℤ b))) result }
 {
     let found = judge_fold(sum, wide)?;
     let product = judge_product(a, b, wide)?;
@@ -82,7 +81,7 @@ pub fn judge_at_most<F: Copy>(
     broken: F,
     wide: F,
 ) -> Result<(), F>
-    ensures { (multipliers : List (ℕ × ℤ)) → (f : ℕ → ℤ) → sum ≡ fold_of (pairs_at multipliers f) → Judges (test wide (IsNarrowSum (pairs_at multipliers f)) ∷ test wide (IsNarrow (a *ℤ b)) ∷ test broken (dot multipliers f ≤ℤ (a *ℤ b)) ∷ []) result }
+    ensures { JudgesSum sum (λ multipliers f. at_most broken wide multipliers f (a *ℤ b)) result }
 {
     let found = judge_fold(sum, wide)?;
     let product = judge_product(a, b, wide)?;

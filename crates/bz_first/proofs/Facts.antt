@@ -17,6 +17,16 @@ numbered_all P n xs i k x l e s h =
     let item : (n + i, get_or xs i x) ≡ (k, x) = rw (← e, ← s) refl in
     subst P (get_or-enumerate_from n xs i (0, x) l ∙ item) (all_at P (enumerate_from n xs) i (0, x) h (rw (length-enumerate_from n xs) l))
 
+-- a fact of the items, said of them with their numbers
+pub with_numbers : {X : Type 0} (P : X → Type 0) (n : ℕ) (xs : List X) → AllByRecursion P xs → AllByRecursion (λ e. P e.1) (enumerate_from n xs)
+with_numbers P n [] h = tt
+with_numbers P n (x ∷ xs) h = (h.0, with_numbers P (n + 1) xs h.1)
+
+-- the numbers of items are at least the first and below their end, and so a fact of all items is one with these bounds
+pub within_numbers : {X : Type 0} (P : ℕ × X → Type 0) (n : ℕ) (xs : List X) (low high : ℕ) → low ≤ n → n + length xs ≤ high → AllByRecursion P (enumerate_from n xs) → AllByRecursion (λ e. (low ≤ e.0) × (e.0 < high) × P e) (enumerate_from n xs)
+within_numbers P n [] low high l g h = tt
+within_numbers P n (x ∷ xs) low high l g h = ((l, omega (arith, g), h.0), within_numbers P (n + 1) xs low high (omega (arith, l)) (omega (arith, g)) h.1)
+
 -- ---- facts that are tested one by one
 -- all that is left passes exactly where all pass
 pub record Remains {X : Type 0} (P : X → Type 0) (rest whole : List X) : Type 0 where

@@ -4,6 +4,8 @@
 //! hold, and else it has the answer of the first that doesn't. This crate knows no model, no cut and no sum.
 #![tactic(auto)]
 
+mod each;
 mod judging;
 
+pub use each::{ItemTests, PlaceTests, judge_below, judge_each};
 pub use judging::{judge, judge_equal, judge_order};

@@ -3,3 +3,4 @@ pub mod Readings
 pub mod Takings
 pub mod Tellings
 pub mod Texts
+pub mod Tries

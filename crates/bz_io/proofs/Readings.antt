@@ -30,7 +30,7 @@ reads_too_long first then now failed bytes piece count limit p q fits more most 
     let long : length (bytes ++ take count piece) ≡ length bytes + count = rw (length-append, length-take-le count piece fits) refl in
     record {
       text = consumes_within first now (bytes ++ take count piece) limit all (omega (arith, long));
-      is_failed = (λ e. absurd cc, λ t. absurd cc);
+      cause = (λ e. absurd cc, λ t. absurd cc);
       most = (bytes ++ take count piece, all, omega (arith, long));
     }
 
@@ -42,6 +42,6 @@ reads_without_memory first then now failed bytes piece count limit p q fits more
     let long : length (bytes ++ take count piece) ≡ length bytes + count = rw (length-append, length-take-le count piece fits) refl in
     record {
       text = consumes_within first now (bytes ++ take count piece) 0 all (omega (arith, long));
-      is_failed = (λ e. absurd cc, λ t. absurd cc);
+      cause = (λ e. absurd cc, λ t. absurd cc);
       most = (bytes ++ take count piece, all, omega (arith, long));
     }

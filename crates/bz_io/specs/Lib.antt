@@ -5,4 +5,5 @@ pub mod Sink
 pub mod MemSink
 pub mod MemDesk
 pub mod Reading
+pub mod Trying
 pub mod Writing

@@ -1,17 +1,20 @@
-//! The machine's files as a desk. It is trusted: no contract says what a file holds.
+//! The machine's files as a desk. No contract says what the file of a name holds, nor that it is the one that is opened:
+//! this is trusted. What is done with what was opened or made is exact.
 ghost use Rattle.std.specs.Prelude.{◌≡◌, ◌≤◌, length, None, is_err, IfOk};
 ghost use Rattle.bz_io.specs.declared.faults.FaultCount.{FaultCount};
-ghost use Rattle.bz_io.specs.Faults.{Counts, faults_after, no_faults};
+ghost use Rattle.bz_io.specs.Faults.{Counts, no_faults};
 ghost use Rattle.bz_io.specs.Desk.{is_failed};
-ghost use Rattle.bz_io.specs.Writing.{SavesMade};
+ghost use Rattle.bz_io.specs.Reading.{LoadsOpened, LoadsSome};
+ghost use Rattle.bz_io.specs.Writing.{SavesMade, SavesSome, WritesMade};
 
 use crate::faults::is_failed;
 use crate::reading::read_opened;
 use crate::source::Source;
-use crate::{Desk, FaultCount, HostSink, LoadError, PutFailed, SaveError, Sink, put_all};
+use crate::{Desk, FaultCount, HostSink, LoadError, PutFailed, SaveError, put_all};
 use std::alloc::Global;
 use std::fs::File;
 use std::io;
+use std::io::{Read, Write};
 use std::marker::Model;
 use std::rt::Files;
 
@@ -50,30 +53,54 @@ impl<'a, R: Files> Desk for HostDesk<'a, R> {
     /// A file that can't be opened or read is a fault. It reads at most `limit` + 1 bytes.
     fn load(&mut self, alloc: Global, name: &str, limit: usize) -> Result<Vec<u8>, LoadError>
         ensures within { IfOk result (λ bytes. length bytes.items ≤ limit) }
-        ensures after { self.new ≡ faults_after self.old (is_failed result) }
+        ensures read { LoadsSome R.File.remaining limit result self.old self.new }
         ensures count { Counts (is_failed result) self.old self.new }
     {
         let mut opened = File::open(self.rt, name).map(Source::new);
-        let answer = read_opened(alloc, &mut opened, limit);
-        self.faults = self.faults.after(is_failed(&answer));
-        answer
+        load_opened(alloc, &mut opened, limit, &mut self.faults)
     }
 
     /// It makes the file anew. A file that can't be made, and a write that fails or takes nothing, is a fault.
     fn save(&mut self, name: &str, bytes: &[u8]) -> Result<(), SaveError>
-        ensures after { self.new ≡ faults_after self.old (is_err result) }
+        ensures written { SavesSome R.File.contents bytes.now result self.old self.new }
         ensures count { Counts (is_err result) self.old self.new }
     {
         let mut made = File::create(self.rt, name).map(HostSink::new);
-        let saved = save_made(&mut made, bytes);
-        self.faults = self.faults.after(saved.is_err());
-        saved
+        save_made(&mut made, bytes, &mut self.faults)
     }
 }
 
-/// Writes all the bytes into the file. A file that could not be made is a failure.
-fn save_made<O: Sink>(made: &mut io::Result<O>, bytes: &[u8]) -> Result<(), SaveError>
-    ensures { SavesMade O.taken O.faults made.old made.new bytes.now result }
+/// All of what was opened, within the limit. A failure is counted.
+fn load_opened<F: Read>(
+    alloc: Global,
+    opened: &mut io::Result<Source<F>>,
+    limit: usize,
+    faults: &mut FaultCount,
+) -> Result<Vec<u8>, LoadError>
+    ensures within { IfOk result (λ bytes. length bytes.items ≤ limit) }
+    ensures loads { LoadsOpened F.remaining opened.old opened.new limit result faults.old faults.new }
+{
+    let answer = read_opened(alloc, opened, limit);
+    *faults = faults.after(is_failed(&answer));
+    answer
+}
+
+/// Writes all the bytes into what was made. A failure is counted.
+fn save_made<F: Write>(
+    made: &mut io::Result<HostSink<F>>,
+    bytes: &[u8],
+    faults: &mut FaultCount,
+) -> Result<(), SaveError>
+    ensures { SavesMade F.contents made.old made.new bytes.now result faults.old faults.new }
+{
+    let saved = write_made(made, bytes);
+    *faults = faults.after(saved.is_err());
+    saved
+}
+
+/// Writes all the bytes into what was made. Where it could not be made, it fails.
+fn write_made<F: Write>(made: &mut io::Result<HostSink<F>>, bytes: &[u8]) -> Result<(), SaveError>
+    ensures { WritesMade F.contents made.old made.new bytes.now result }
 {
     match made {
         Ok(out) => match put_all(out, bytes) {

@@ -1,13 +1,13 @@
-//! A reader that records whether a read failed.
-ghost use Rattle.std.specs.Prelude.{◌≡◌, is_err, false};
+//! A reader that records whether a read has failed.
+ghost use Rattle.std.specs.Prelude.{◌≡◌, is_err, false, IsTrue};
 ghost use Rattle.std.specs.Io.{ReadsAtMost};
 ghost use Rattle.std.specs.Io.KnownBytes.{ReadConsumes};
 
 use crate::retrying::read_once;
 use std::io;
-use std::io::Read;
+use std::io::{ErrorKind, Read};
 
-/// A reader, and whether its last read failed.
+/// A reader, and whether a read has failed. From the first failure on every read fails.
 #[derive(Drop)]
 pub(crate) struct Source<R> {
     from: R,
@@ -31,7 +31,11 @@ impl<R: Read> Source<R> {
         ensures within { ReadsAtMost result piece.new }
         ensures bytes { ReadConsumes (R.remaining self.old.from) (R.remaining self.new.from) result piece.new }
         ensures failed { self.new.failed ≡ is_err result }
+        ensures stays { IsTrue self.old.failed → IsTrue self.new.failed }
     {
+        if self.failed {
+            return Err(io::Error::from(ErrorKind::Other));
+        }
         let answer = read_once(&mut self.from, piece);
         self.failed = answer.is_err();
         answer

@@ -1,5 +1,5 @@
 -- The tests of a point, a cost, a value, a direction and a leaf are decided.
-use Rattle.std.specs.Prelude.{ℕ, ℤ, pos, ◌≡◌, ◌*ℤ◌, ◌+ℤ◌, ◌<ℤ◌, ◌≤ℤ◌, List, [], ◌∷◌, ◌++◌, length}
+use Rattle.std.specs.Prelude.{ℕ, ℤ, pos, ◌≡◌, ◌*ℤ◌, ◌+ℤ◌, ◌<ℤ◌, ◌≤ℤ◌, List, ◌++◌, length}
 use Rattle.std.specs.Int.RustNames.{unsigned_abs}
 use Rattle.std.specs.List.{enumerate_from}
 use Rattle.std.proofs.Common.{ap, arith, inl, inr, sym, ◌∙◌}
@@ -20,7 +20,7 @@ use Rattle.bz_model.specs.declared.Row.{Row}
 use Rattle.bz_model.specs.Parting.{blocks_of, inequalities_of, inner_cost, integers_of, position_of, terms_in, width_of}
 use Rattle.bz_model.specs.PartPoints.{eta_of, total}
 use Rattle.bz_model.specs.Points.{IsWhole, coordinate}
-use Rattle.bz_model.specs.PointSums.{row_pairs, stated_pairs, value_pairs}
+use Rattle.bz_model.specs.PointSums.{joined_pairs, row_pairs, stated_pairs, value_pairs}
 use Rattle.bz_model.specs.Rays.{RowAllows}
 use Rattle.bz_cut.specs.Rows.{master_at, own_at, rhs_at}
 use Rattle.bz_cut.proofs.CutDecided.{equation_told, multipliers_told, narrow_told, sum_is_told, sum_told}
@@ -56,7 +56,7 @@ in_block_told master b block e = (
   λ s. (
     sum_told (row_pairs e.1.own block.y),
     λ t. (
-      sum_told ((block.times, dot e.1.master (coordinate master.x)) ∷ (pos 1, dot e.1.own (coordinate block.y)) ∷ []),
+      sum_told (joined_pairs block.times (dot e.1.master (coordinate master.x)) (dot e.1.own (coordinate block.y))),
       λ u. (
         narrow_told (e.1.rhs *ℤ (master.den *ℤ block.times)),
         λ n. (at_most_told_z ((block.times *ℤ dot e.1.master (coordinate master.x)) +ℤ dot e.1.own (coordinate block.y)) (e.1.rhs *ℤ (master.den *ℤ block.times)), λ h. tt),

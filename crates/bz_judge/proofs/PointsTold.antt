@@ -3,6 +3,7 @@ use Rattle.std.specs.Prelude.{ℕ, ℤ, ◌≡◌, ◌*ℤ◌, ◌≤ℤ◌, Lis
 use Rattle.std.specs.List.{AllByRecursion, enumerate_from}
 use Rattle.bz_algebra.specs.Sums.{dot}
 use Rattle.bz_model.specs.declared.BlockPart.{BlockPart}
+use Rattle.bz_model.specs.declared.Column.{Column}
 use Rattle.bz_model.specs.declared.Ineq.{Ineq}
 use Rattle.bz_model.specs.declared.Master.{Master}
 use Rattle.bz_model.specs.declared.Model.{Model}
@@ -17,7 +18,8 @@ use Rattle.bz_tree.specs.Boxes.{Box}
 use Rattle.bz_model.specs.PartPoints.{BlockHolds, HoldsInBlock, HoldsInMaster, eta_of}
 use Rattle.bz_tree.specs.Integers.{IntegerHolds}
 use Rattle.bz_model.specs.Rays.{ColumnAllows, IsFallingRay, RowAllows}
-use Rattle.bz_judge.specs.PointTests.{Tests, block_tests, in_block_tests, in_master_tests, integer_tests, point_tests}
+use Rattle.bz_judge.specs.PointTests.{Tests, block_tests, in_block_tests, in_master_tests, integer_tests, integers_tests, point_tests}
+use Rattle.bz_judge.specs.PointHolds.{PointHolds}
 use Rattle.bz_judge.specs.ValueTests.{cost_tests}
 use Rattle.bz_judge.specs.RayTests.{ray_bound_tests, ray_cost_tests, ray_integer_tests, ray_row_tests, ray_tests}
 use Rattle.bz_model.specs.PointFits.{FitsBlock, FitsCost, FitsInBlock, FitsInMaster, FitsPoint}
@@ -58,19 +60,24 @@ module _ (m : Model) (part : List ℕ) (master : Master) where
   pub cost_fits : (e : ℕ × BlockPart) → AllHold (cost_tests m part master e) → FitsCost m part master e.0 e.1
   cost_fits e h = record { cost = h.0; eta = h.1.0 }
 
--- ---- the point
--- the point of the parts meets the master, the box of the whole model and the blocks
-pub record PointHolds (m : Model) (part : List ℕ) (root : Box) (parts : Parts) : Type 0 where
-  pub master : AllByRecursion (HoldsInMaster parts.master) (inequalities_of m part 0)
-  pub integers : AllByRecursion (IntegerHolds part root parts.master) (enumerate_from 0 (integers_of m))
-  pub blocks : AllByRecursion (λ e. AllByRecursion (HoldsInBlock parts.master e.1) (inequalities_of m part e.0)) (enumerate_from 1 parts.blocks)
+-- ---- the integer columns
+module _ (m : Model) (part : List ℕ) (box : Box) (master : Master) where
+  abbrev column_tests : ℕ × (ℕ × Column) → Tests
+  column_tests = integer_tests part box master (length (inequalities_of m part 0))
 
+  pub integers_told : AllHold (integers_tests m part box master) → AllByRecursion (IntegerHolds part box master) (enumerate_from 0 (integers_of m))
+  integers_told h = each_told column_tests (IntegerHolds part box master) (enumerate_from 0 (integers_of m)) (λ x g. record { whole = g.0; at_most = g.1.0; at_least = g.1.1.0 }) h
+
+  pub integers_tested : AllByRecursion (IntegerHolds part box master) (enumerate_from 0 (integers_of m)) → AllHold (integers_tests m part box master)
+  integers_tested h = each_tested column_tests (IntegerHolds part box master) (IntegerHolds part box master) (enumerate_from 0 (integers_of m)) (λ x g k. (g.whole, (g.at_most, (g.at_least, tt)))) h h
+
+-- ---- the point
 module _ (m : Model) (part : List ℕ) (root : Box) (parts : Parts) where
   abbrev masters : Tests
   masters = each_of (in_master_tests parts.master) (enumerate_from 0 (inequalities_of m part 0))
 
   abbrev integers : Tests
-  integers = each_of (integer_tests part root parts.master (length (inequalities_of m part 0))) (enumerate_from 0 (integers_of m))
+  integers = integers_tests m part root parts.master
 
   abbrev blocks : Tests
   blocks = each_of (block_tests m part parts.master) (enumerate_from 1 parts.blocks)
@@ -78,7 +85,7 @@ module _ (m : Model) (part : List ℕ) (root : Box) (parts : Parts) where
   pub point_told : AllHold (point_tests m part root parts) → PointHolds m part root parts
   point_told h = record {
     master = rows_told parts.master (inequalities_of m part 0) (all_front masters integers (all_front (masters ++ integers) blocks h));
-    integers = each_told (integer_tests part root parts.master (length (inequalities_of m part 0))) (IntegerHolds part root parts.master) (enumerate_from 0 (integers_of m)) (λ x g. record { whole = g.0; at_most = g.1.0; at_least = g.1.1.0 }) (all_behind masters integers (all_front (masters ++ integers) blocks h));
+    integers = integers_told m part root parts.master (all_behind masters integers (all_front (masters ++ integers) blocks h));
     blocks = each_told (block_tests m part parts.master) (λ e. AllByRecursion (HoldsInBlock parts.master e.1) (inequalities_of m part e.0)) (enumerate_from 1 parts.blocks) (block_rows m part parts.master) (all_behind (masters ++ integers) blocks h);
   }
 
@@ -92,7 +99,7 @@ module _ (m : Model) (part : List ℕ) (root : Box) (parts : Parts) where
   point_tested h f = all_joined (masters ++ integers) blocks
       (all_joined masters integers
       (rows_tested parts.master (inequalities_of m part 0) h.master f.master)
-      (each_tested (integer_tests part root parts.master (length (inequalities_of m part 0))) (IntegerHolds part root parts.master) (IntegerHolds part root parts.master) (enumerate_from 0 (integers_of m)) (λ x g k. (g.whole, (g.at_most, (g.at_least, tt)))) h.integers h.integers))
+      (integers_tested m part root parts.master h.integers))
       (each_tested (block_tests m part parts.master) (λ e. AllByRecursion (HoldsInBlock parts.master e.1) (inequalities_of m part e.0)) (λ e. FitsBlock m part parts.master e.0 e.1) (enumerate_from 1 parts.blocks) (block_tested m part parts.master) h.blocks f.blocks)
 
   -- ---- the costs of the blocks

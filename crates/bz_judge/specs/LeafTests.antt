@@ -17,7 +17,8 @@ use Rattle.bz_judge.specs.WideLists.{leaf_sums}
 abbrev pub leaf_master_tests : Model → List ℕ → List Ineq → ℕ → Leaf → ℕ → Tests
 leaf_master_tests m part sides node leaf i =
     equation (fault.Leaf node) (fault.Wide leaf_sums node) leaf.lambda (λ n. coef (master_at sides n) i)
-    (leaf.delta *ℤ coef (terms_in part 0 (inner_cost m)) i) (neg_ℤ (leaf.delta *ℤ coef (terms_in part 0 (inner_cost m)) i))
+    (leaf.delta *ℤ coef (terms_in part 0 (inner_cost m)) i)
+    (neg_ℤ (leaf.delta *ℤ coef (terms_in part 0 (inner_cost m)) i))
 
 abbrev pub leaf_eta_tests : List Ineq → ℕ → Leaf → ℕ → Tests
 leaf_eta_tests sides node leaf b =
@@ -26,6 +27,13 @@ leaf_eta_tests sides node leaf b =
 abbrev pub leaf_rhs_tests : List Ineq → ℕ → Leaf → Tests
 leaf_rhs_tests sides node leaf =
     sum_is (fault.Leaf node) (fault.Wide leaf_sums node) leaf.lambda (rhs_at sides) (neg_ℤ leaf.bound)
+
+-- all positions of the master, and all etas
+abbrev pub leaf_masters_tests : Model → List ℕ → List Ineq → ℕ → Leaf → Tests
+leaf_masters_tests m part sides node leaf = each_below (width_of part 0) (leaf_master_tests m part sides node leaf)
+
+abbrev pub leaf_etas_tests : List ℕ → List Ineq → ℕ → Leaf → Tests
+leaf_etas_tests part sides node leaf = each_below (blocks_of part) (leaf_eta_tests sides node leaf)
 
 -- its multipliers are positive and at places of the sides, and its delta isn't negative
 abbrev pub leaf_form_tests : List Ineq → ℕ → Leaf → Tests
@@ -42,7 +50,7 @@ leaf_bound_tests node leaf = test (fault.Leaf node) (leaf.delta ≡ pos 0 → po
 abbrev pub leaf_tests : Model → List ℕ → List Ineq → ℕ → Leaf → Tests
 leaf_tests m part sides node leaf =
     leaf_form_tests sides node leaf
-    ++ each_below (width_of part 0) (leaf_master_tests m part sides node leaf)
-    ++ each_below (blocks_of part) (leaf_eta_tests sides node leaf)
+    ++ leaf_masters_tests m part sides node leaf
+    ++ leaf_etas_tests part sides node leaf
     ++ leaf_rhs_tests sides node leaf
     ++ leaf_bound_tests node leaf

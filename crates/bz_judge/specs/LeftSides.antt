@@ -1,5 +1,5 @@
 -- The left side of a block's inequality at a point of the parts.
-use Rattle.std.specs.Prelude.{ℕ, ℤ, pos, ◌+ℤ◌, ◌*ℤ◌, List, [], ◌∷◌}
+use Rattle.std.specs.Prelude.{ℕ, ℤ, ◌+ℤ◌, ◌*ℤ◌, List, [], ◌∷◌}
 use Rattle.bz_algebra.specs.Sums.{AllBelow, dot}
 use Rattle.bz_num.specs.Fold.{IsNarrowSum}
 use Rattle.bz_model.specs.declared.BlockPart.{BlockPart}
@@ -8,7 +8,7 @@ use Rattle.bz_model.specs.declared.Master.{Master}
 use Rattle.bz_model.specs.Points.{coordinate}
 use Rattle.bz_first.specs.Tests.{Test, test}
 use Rattle.bz_judge.specs.declared.faults.CheckFault.{CheckFault}
-use Rattle.bz_model.specs.PointSums.{row_pairs}
+use Rattle.bz_model.specs.PointSums.{joined_pairs, row_pairs}
 
 -- the inequality speaks of the first so many positions of the master and of the part
 pub record FitsLengths (width depth : ℕ) (i : Ineq) : Type 0 where
@@ -19,10 +19,11 @@ pub record FitsLengths (width depth : ℕ) (i : Ineq) : Type 0 where
 abbrev pub left_side_of : Master → BlockPart → Ineq → ℤ
 left_side_of master block i = (block.times *ℤ dot i.master (coordinate master.x)) +ℤ dot i.own (coordinate block.y)
 
--- the sum in the master, the sum in the block, and both together
+-- the sum in the master, the sum in the block, the first times `times` and then the second together
 abbrev pub left_side_tests : CheckFault → Master → BlockPart → Ineq → List (Test CheckFault)
 left_side_tests wide master block i =
     test wide (IsNarrowSum (row_pairs i.master master.x))
     ∷ test wide (IsNarrowSum (row_pairs i.own block.y))
-    ∷ test wide (IsNarrowSum ((block.times, dot i.master (coordinate master.x)) ∷ (pos 1, dot i.own (coordinate block.y)) ∷ []))
+    ∷ test wide
+    (IsNarrowSum (joined_pairs block.times (dot i.master (coordinate master.x)) (dot i.own (coordinate block.y))))
     ∷ []

@@ -2,6 +2,7 @@ pub mod IntegerTests
 pub mod Laws
 pub mod LeafTests
 pub mod LeftSides
+pub mod PointHolds
 pub mod PointTests
 pub mod RayTests
 pub mod SideNumbers

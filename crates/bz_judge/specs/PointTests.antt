@@ -1,9 +1,8 @@
 -- The tests of a point of the parts, in their order. A test answers the fault that it stands for; the tests that a sum is
 -- not wide stand where the sum stands.
-use Rattle.std.specs.Prelude.{ℕ, pos, ◌+◌, ◌*◌, ◌*ℤ◌, ◌≤ℤ◌, List, [], ◌∷◌, ◌++◌, length}
+use Rattle.std.specs.Prelude.{ℕ, ◌+◌, ◌*◌, ◌*ℤ◌, List, [], ◌∷◌, ◌++◌, length}
 use Rattle.std.specs.List.{enumerate_from}
 use Rattle.bz_algebra.specs.Numbers.{IsNarrow}
-use Rattle.bz_algebra.specs.Sums.{dot}
 use Rattle.bz_num.specs.Fold.{IsNarrowSum}
 use Rattle.bz_model.specs.declared.BlockPart.{BlockPart}
 use Rattle.bz_model.specs.declared.Column.{Column}
@@ -13,12 +12,14 @@ use Rattle.bz_model.specs.declared.Model.{Model}
 use Rattle.bz_model.specs.declared.Parts.{Parts}
 use Rattle.bz_model.specs.Parting.{inequalities_of, integers_of, position_of}
 use Rattle.bz_model.specs.PartPoints.{HoldsInBlock, HoldsInMaster}
-use Rattle.bz_model.specs.Points.{IsWhole, coordinate}
+use Rattle.bz_model.specs.Points.{coordinate}
 use Rattle.bz_model.specs.PointSums.{row_pairs}
 use Rattle.bz_first.specs.Tests.{Test, each_of, test}
 use Rattle.bz_tree.specs.Boxes.{Box}
 use Rattle.bz_judge.specs.declared.faults.CheckFault.{CheckFault}
 use Rattle.bz_judge.specs.declared.faults.CheckFault.TheVariants as fault
+use Rattle.bz_judge.specs.IntegerTests.{between_tests}
+use Rattle.bz_judge.specs.LeftSides.{left_side_tests}
 use Rattle.bz_judge.specs.WideLists.{block_denominator, block_sums, master_sums}
 
 abbrev pub Tests : Type 1
@@ -32,23 +33,22 @@ in_master_tests master e =
     ∷ test (fault.Point 0 e.0) (HoldsInMaster master e.1)
     ∷ []
 
--- an integer column at the master's point: it is whole, at most its upper end of the box, and at least its lower end;
--- `sides` inequalities stand before the sides of the box
-abbrev pub integer_tests : List ℕ → Box → Master → ℕ → ℕ × (ℕ × Column) → Tests
-integer_tests part box master sides e =
-    test (fault.Point 0 (sides + 2 * e.0)) (IsWhole (coordinate master.x (position_of part e.1.0)) master.den)
-    ∷ test (fault.Point 0 (sides + 2 * e.0)) (coordinate master.x (position_of part e.1.0) ≤ℤ (coordinate box.upper e.0 *ℤ master.den))
-    ∷ test (fault.Point 0 (sides + 2 * e.0 + 1)) ((coordinate box.lower e.0 *ℤ master.den) ≤ℤ coordinate master.x (position_of part e.1.0))
-    ∷ []
+-- the integer column at a position of the master, by its number: at the master's point it is whole, at most its upper
+-- end of the box, and at least its lower end; `sides` inequalities stand before the sides of the box
+abbrev pub position_tests : Box → Master → ℕ → ℕ × ℕ → Tests
+position_tests box master sides e =
+    between_tests (sides + 2 * e.0) (coordinate master.x e.1) master.den
+    (coordinate box.lower e.0) (coordinate box.upper e.0)
 
--- inequality n of block b: its sum in the master, its sum in the block, the first times `times` and then the second
--- together, its right side times the block's denominator, and that it holds
+-- an integer column
+abbrev pub integer_tests : List ℕ → Box → Master → ℕ → ℕ × (ℕ × Column) → Tests
+integer_tests part box master sides e = position_tests box master sides (e.0, position_of part e.1.0)
+
+-- inequality n of block b: its left side, its right side times the block's denominator, and that it holds
 abbrev pub in_block_tests : Master → ℕ → BlockPart → ℕ × Ineq → Tests
 in_block_tests master b block e =
-    test (fault.Wide block_sums e.0) (IsNarrowSum (row_pairs e.1.master master.x))
-    ∷ test (fault.Wide block_sums e.0) (IsNarrowSum (row_pairs e.1.own block.y))
-    ∷ test (fault.Wide block_sums e.0) (IsNarrowSum ((block.times, dot e.1.master (coordinate master.x)) ∷ (pos 1, dot e.1.own (coordinate block.y)) ∷ []))
-    ∷ test (fault.Wide block_sums e.0) (IsNarrow (e.1.rhs *ℤ (master.den *ℤ block.times)))
+    left_side_tests (fault.Wide block_sums e.0) master block e.1
+    ++ test (fault.Wide block_sums e.0) (IsNarrow (e.1.rhs *ℤ (master.den *ℤ block.times)))
     ∷ test (fault.Point b e.0) (HoldsInBlock master block e.1)
     ∷ []
 
@@ -58,9 +58,18 @@ block_tests m part master e =
     test (fault.Wide block_denominator e.0) (IsNarrow (master.den *ℤ e.1.times))
     ∷ each_of (in_block_tests master e.0 e.1) (enumerate_from 0 (inequalities_of m part e.0))
 
+-- all blocks
+abbrev pub blocks_tests : Model → List ℕ → Master → List BlockPart → Tests
+blocks_tests m part master blocks = each_of (block_tests m part master) (enumerate_from 1 blocks)
+
+-- all integer columns
+abbrev pub integers_tests : Model → List ℕ → Box → Master → Tests
+integers_tests m part box master =
+    each_of (integer_tests part box master (length (inequalities_of m part 0))) (enumerate_from 0 (integers_of m))
+
 -- the point of the parts: the master's inequalities, the integer columns, and the blocks
 abbrev pub point_tests : Model → List ℕ → Box → Parts → Tests
 point_tests m part root parts =
     each_of (in_master_tests parts.master) (enumerate_from 0 (inequalities_of m part 0))
-    ++ each_of (integer_tests part root parts.master (length (inequalities_of m part 0))) (enumerate_from 0 (integers_of m))
-    ++ each_of (block_tests m part parts.master) (enumerate_from 1 parts.blocks)
+    ++ integers_tests m part root parts.master
+    ++ blocks_tests m part parts.master parts.blocks

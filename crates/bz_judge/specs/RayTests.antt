@@ -25,10 +25,13 @@ abbrev pub ray_row_tests : List ℤ → ℕ × Row → Tests
 ray_row_tests ray e =
     test (fault.Wide ray_sums e.0) (IsNarrowSum (row_pairs e.1.terms ray)) ∷ test fault.Ray (RowAllows ray e.1) ∷ []
 
+-- a step keeps the bounds that the column has
+abbrev pub KeepsBounds : Column → ℤ → Type 0
+KeepsBounds column step = IfSome column.lower (λ f. pos 0 ≤ℤ step) × IfSome column.upper (λ f. step ≤ℤ pos 0)
+
 -- a column's number keeps its bounds
 abbrev pub ray_bound_tests : List ℤ → ℕ × Column → Tests
-ray_bound_tests ray e =
-    test fault.Ray (IfSome e.1.lower (λ f. pos 0 ≤ℤ coordinate ray e.0) × IfSome e.1.upper (λ f. coordinate ray e.0 ≤ℤ pos 0)) ∷ []
+ray_bound_tests ray e = test fault.Ray (KeepsBounds e.1 (coordinate ray e.0)) ∷ []
 
 -- the inner cost falls along the direction
 abbrev pub ray_cost_tests : Model → List ℤ → Tests

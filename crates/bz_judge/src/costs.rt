@@ -3,14 +3,15 @@ ghost use Rattle.std.specs.Prelude.{◌≡◌, ◌<◌, ◌≤◌, [], IfOk, len
 ghost use Rattle.std.specs.List.{AllByRecursion, enumerate_from};
 ghost use Rattle.bz_num.specs.Fold.{fold_of};
 ghost use Rattle.bz_model.specs.Parting.{blocks_of, inner_cost, terms_in, width_of};
-ghost use Rattle.bz_first.specs.Tests.{Judges, each_of};
+ghost use Rattle.bz_first.specs.Tests.{Judges};
 ghost use Rattle.bz_model.specs.PartPoints.{HasBlockShape};
-ghost use Rattle.bz_judge.specs.ValueTests.{cost_tests};
+ghost use Rattle.bz_judge.specs.ValueTests.{cost_tests, costs_tests};
 ghost use Rattle.bz_judge.specs.Sums.{Begins};
 ghost use Rattle.bz_model.specs.PointSums.{row_pairs};
 
 use crate::faults::{COST_SUMS, CheckFault, wide_in};
 use bz_cut::judge_at_most;
+use bz_first::{ItemTests, judge_each};
 use bz_model::{BlockPart, Master, Split};
 use bz_num::{Folding, WideSum};
 
@@ -64,16 +65,34 @@ pub fn judge_cost(
     judge_at_most(sum, eta, block.times, broken, wide)
 }
 
+/// The tests of blocks' inner costs.
+#[derive(Clone, Copy)]
+struct Costs<'a> {
+    split: &'a Split,
+    master: &'a Master,
+}
+
+impl ItemTests<BlockPart, CheckFault> for Costs<'_> {
+    ghost takes = { λ t e.
+        (0 < e.0)
+        × (e.0 ≤ blocks_of t.split.now.part)
+        × (length t.master.now.eta ≡ blocks_of t.split.now.part)
+        × (length e.1.y ≡ width_of t.split.now.part e.0) };
+
+    ghost tests = { λ t. cost_tests t.split.now.model t.split.now.part t.master.now };
+
+    fn judge(&self, b: u32, block: &BlockPart) -> Result<(), CheckFault> {
+        judge_cost(self.split, self.master, b, block)
+    }
+}
+
 /// Tests that the inner cost of each block is at most its eta.
 pub fn judge_costs(split: &Split, master: &Master, blocks: &[BlockPart]) -> Result<(), CheckFault>
     requires count { length blocks.now ≡ blocks_of split.now.part }
     requires few { length blocks.now ≤ 256 }
     requires eta { length master.now.eta ≡ blocks_of split.now.part }
     requires shapes { AllByRecursion (HasBlockShape split.now.part) (enumerate_from 1 blocks.now) }
-    ensures { Judges (each_of (cost_tests split.now.model split.now.part master.now) (enumerate_from 1 blocks.now)) result }
+    ensures { Judges (costs_tests split.now.model split.now.part master.now blocks.now) result }
 {
-    for (place, block) in blocks.iter().enumerate() {
-        judge_cost(split, master, place as u32 + 1, block)?;
-    }
-    Ok(())
+    judge_each(blocks, 1, &Costs { split, master })
 }

@@ -1,4 +1,4 @@
-//! Why a certificate is refused.
+//! What the tests answer where they fail.
 ghost use Rattle.std.specs.Prelude.{◌≡◌};
 ghost use Rattle.bz_judge.specs.declared.faults.CheckFault.TheVariants.{Wide};
 
@@ -33,8 +33,8 @@ pub const LEAF_SUMS: u32 = 8;
 /// The sums along the direction: of the rows, and behind them of the inner cost.
 pub const RAY_SUMS: u32 = 9;
 
-/// Why a certificate is refused: the first test that fails, in the order of these kinds but for `Wide`, which stands
-/// where its sum stands.
+/// What a test answers where it fails. Whoever has tests judged gives their order; that a sum is wide is tested where the
+/// sum stands.
 #[derive(Clone, Copy, Debug, PartialEq, Eq)]
 pub enum CheckFault {
     /// A list doesn't fit the split, or a denominator isn't positive.

@@ -1,15 +1,15 @@
 //! Whether integer columns are whole at the master's point, and within the box of the whole model.
-ghost use Rattle.std.specs.Prelude.{◌≡◌, ◌+◌, ◌*◌, ◌<◌, ◌^◌, pos, ◌<ℤ◌, length, map};
-ghost use Rattle.std.specs.List.{enumerate_from};
-ghost use Rattle.bz_model.specs.Parting.{inequalities_of, integers_of, position_of, width_of};
-ghost use Rattle.bz_model.specs.Points.{coordinate};
-ghost use Rattle.bz_first.specs.Tests.{Judges, each_of};
+ghost use Rattle.std.specs.Prelude.{◌≡◌, ◌+◌, ◌<◌, ◌^◌, pos, ◌<ℤ◌, length};
+ghost use Rattle.bz_model.specs.Parting.{width_of};
+ghost use Rattle.bz_first.specs.Tests.{Judges};
 ghost use Rattle.bz_tree.specs.Boxes.{IsRootBox};
 ghost use Rattle.bz_tree.specs.Ends.{box_of};
-ghost use Rattle.bz_judge.specs.PointTests.{integer_tests};
-ghost use Rattle.bz_judge.specs.IntegerTests.{IsWholeQuotient, between_tests};
+ghost use Rattle.bz_tree.specs.Integers.{positions_of};
+ghost use Rattle.bz_judge.specs.PointTests.{integers_tests, position_tests};
+ghost use Rattle.bz_judge.specs.IntegerTests.{IsIntegerOf, IsWholeQuotient, between_tests};
 
 use crate::faults::CheckFault;
+use bz_first::{ItemTests, judge_each};
 use bz_model::{Master, Split};
 use bz_num::divide;
 use bz_tree::NodeBox;
@@ -47,26 +47,26 @@ fn judge_between(x: i128, den: i128, lower: i128, upper: i128, at: u32) -> Resul
     Ok(())
 }
 
-/// Tests integer column `k`, which stands at a position of the master; `sides` inequalities stand before the sides of
-/// the box.
-fn judge_integer(
-    master: &Master,
-    root: &NodeBox,
+/// The tests of integer columns by their positions in the master.
+#[derive(Clone, Copy)]
+struct Integers<'a> {
+    master: &'a Master,
+    root: &'a NodeBox,
+    /// How many inequalities stand before the sides of the box.
     sides: u32,
-    k: u32,
-    position: u32,
-) -> Result<(), CheckFault>
-    requires positive { pos 0 <ℤ master.now.den }
-    requires place { sides + 2 * k + 1 < 2 ^ 32 }
-    requires position { position < length master.now.x }
-    requires lower { k < length root.now.lower }
-    requires upper { k < length root.now.upper }
-    ensures { Judges (between_tests (sides + 2 * k) (coordinate master.now.x position) master.now.den (coordinate root.now.lower k) (coordinate root.now.upper k)) result }
-{
-    let x = master.x.as_slice()[position as usize];
-    let lower = root.lower.as_slice()[k as usize];
-    let upper = root.upper.as_slice()[k as usize];
-    judge_between(x, master.den, lower, upper, sides + 2 * k)
+}
+
+impl ItemTests<u32, CheckFault> for Integers<'_> {
+    ghost takes = { λ t. IsIntegerOf t.master.now (box_of t.root.now) t.sides };
+
+    ghost tests = { λ t. position_tests (box_of t.root.now) t.master.now t.sides };
+
+    fn judge(&self, k: u32, position: &u32) -> Result<(), CheckFault> {
+        let x = self.master.x.as_slice()[*position as usize];
+        let lower = self.root.lower.as_slice()[k as usize];
+        let upper = self.root.upper.as_slice()[k as usize];
+        judge_between(x, self.master.den, lower, upper, self.sides + 2 * k)
+    }
 }
 
 /// Tests all integer columns, whose positions in the master are given in file order.
@@ -79,12 +79,14 @@ pub fn judge_integers(
     requires positive { pos 0 <ℤ master.now.den }
     requires x { length master.now.x ≡ width_of split.now.part 0 }
     requires root { IsRootBox split.now.model (box_of root.now) }
-    requires positions { positions.now ≡ map (λ e. position_of split.now.part e.0) (integers_of split.now.model) }
-    ensures { Judges (each_of (integer_tests split.now.part (box_of root.now) master.now (length (inequalities_of split.now.model split.now.part 0))) (enumerate_from 0 (integers_of split.now.model))) result }
+    requires positions { positions.now ≡ positions_of split.now.model split.now.part }
+    ensures { Judges (integers_tests split.now.model split.now.part (box_of root.now) master.now) result }
 {
     let sides = split.inequalities(0).len() as u32;
-    for (k, position) in positions.iter().enumerate() {
-        judge_integer(master, root, sides, k as u32, *position)?;
-    }
-    Ok(())
+    let tests = Integers {
+        master,
+        root,
+        sides,
+    };
+    judge_each(positions, 0, &tests)
 }

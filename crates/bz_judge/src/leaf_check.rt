@@ -2,14 +2,14 @@
 ghost use Rattle.std.specs.Prelude.{◌≡◌, ◌<◌, ◌*ℤ◌, ◌≤ℤ◌, ◌<ℤ◌, ◌↔◌, pos, length, IsTrue};
 ghost use Rattle.bz_model.specs.Parting.{blocks_of, width_of};
 ghost use Rattle.bz_cut.specs.Rows.{AreMultipliers};
-ghost use Rattle.bz_first.specs.Tests.{Judges, each_below};
-ghost use Rattle.bz_judge.specs.LeafTests.{leaf_bound_tests, leaf_eta_tests, leaf_form_tests, leaf_master_tests, leaf_rhs_tests, leaf_tests};
+ghost use Rattle.bz_first.specs.Tests.{Judges};
+ghost use Rattle.bz_judge.specs.LeafTests.{leaf_bound_tests, leaf_eta_tests, leaf_etas_tests, leaf_form_tests, leaf_master_tests, leaf_masters_tests, leaf_rhs_tests, leaf_tests};
 ghost use Rattle.bz_tree.specs.LeafSides.{AreSides, sides_in};
 
 use crate::faults::{CheckFault, LEAF_SUMS, wide_in};
 use crate::leaf_sums::{Place, side_sum};
 use bz_cut::{are_multipliers, judge_opposite, judge_sum};
-use bz_first::{judge, judge_order};
+use bz_first::{PlaceTests, judge, judge_below, judge_order};
 use bz_model::Split;
 use bz_num::narrow_negation;
 use bz_tree::{Leaf, Sides};
@@ -24,68 +24,78 @@ fn judge_form(sides: &Sides, node: u32, leaf: &Leaf) -> Result<(), CheckFault>
     judge_order(0, leaf.delta, broken)
 }
 
-/// Tests the equation on a position of the master.
-fn judge_position(
-    split: &Split,
-    sides: &Sides,
+/// The equations of a leaf on the positions of the master.
+#[derive(Clone, Copy)]
+struct Positions<'a> {
+    split: &'a Split,
+    sides: &'a Sides<'a>,
     node: u32,
-    leaf: &Leaf,
-    position: u32,
-) -> Result<(), CheckFault>
-    requires sides { AreSides sides.now }
-    requires lambda { AreMultipliers (length (sides_in sides.now)) leaf.now.lambda }
-    requires position { position < width_of split.now.part 0 }
-    ensures { Judges (leaf_master_tests split.now.model split.now.part (sides_in sides.now) node leaf.now position) result }
-{
-    let sum = side_sum(sides, &leaf.lambda, Place::Master(position));
-    let cost = split.inner_cost(0, position);
-    judge_opposite(
-        sum,
-        leaf.delta,
-        cost,
-        CheckFault::Leaf { node },
-        wide_in(LEAF_SUMS, node),
-    )
+    leaf: &'a Leaf,
+}
+
+impl PlaceTests<CheckFault> for Positions<'_> {
+    ghost takes = { λ t position.
+        AreSides t.sides.now
+        × AreMultipliers (length (sides_in t.sides.now)) t.leaf.now.lambda
+        × (position < width_of t.split.now.part 0) };
+
+    ghost tests = { λ t.
+        leaf_master_tests t.split.now.model t.split.now.part (sides_in t.sides.now) t.node t.leaf.now };
+
+    fn judge_at(&self, position: u32) -> Result<(), CheckFault> {
+        let leaf = self.leaf;
+        let sum = side_sum(self.sides, &leaf.lambda, Place::Master(position));
+        let cost = self.split.inner_cost(0, position);
+        let broken = CheckFault::Leaf { node: self.node };
+        let wide = wide_in(LEAF_SUMS, self.node);
+        judge_opposite(sum, leaf.delta, cost, broken, wide)
+    }
 }
 
 /// Tests the equations on the master's positions.
 fn judge_positions(split: &Split, sides: &Sides, node: u32, leaf: &Leaf) -> Result<(), CheckFault>
     requires sides { AreSides sides.now }
     requires lambda { AreMultipliers (length (sides_in sides.now)) leaf.now.lambda }
-    ensures { Judges (each_below (width_of split.now.part 0) (leaf_master_tests split.now.model split.now.part (sides_in sides.now) node leaf.now)) result }
+    ensures { Judges (leaf_masters_tests split.now.model split.now.part (sides_in sides.now) node leaf.now) result }
 {
-    for position in 0..split.width(0) {
-        judge_position(split, sides, node, leaf, position)?;
-    }
-    Ok(())
+    let equations = Positions {
+        split,
+        sides,
+        node,
+        leaf,
+    };
+    judge_below(split.width(0), &equations)
 }
 
-/// Tests the sum on an eta.
-fn judge_eta(sides: &Sides, node: u32, leaf: &Leaf, eta: u32) -> Result<(), CheckFault>
-    requires sides { AreSides sides.now }
-    requires lambda { AreMultipliers (length (sides_in sides.now)) leaf.now.lambda }
-    ensures { Judges (leaf_eta_tests (sides_in sides.now) node leaf.now eta) result }
-{
-    let sum = side_sum(sides, &leaf.lambda, Place::Eta(eta));
-    let turned = narrow_negation(leaf.delta);
-    judge_sum(
-        sum,
-        turned,
-        CheckFault::Leaf { node },
-        wide_in(LEAF_SUMS, node),
-    )
+/// The sums of a leaf on the etas.
+#[derive(Clone, Copy)]
+struct Etas<'a> {
+    sides: &'a Sides<'a>,
+    node: u32,
+    leaf: &'a Leaf,
+}
+
+impl PlaceTests<CheckFault> for Etas<'_> {
+    ghost takes = { λ t eta. AreSides t.sides.now × AreMultipliers (length (sides_in t.sides.now)) t.leaf.now.lambda };
+
+    ghost tests = { λ t. leaf_eta_tests (sides_in t.sides.now) t.node t.leaf.now };
+
+    fn judge_at(&self, eta: u32) -> Result<(), CheckFault> {
+        let leaf = self.leaf;
+        let sum = side_sum(self.sides, &leaf.lambda, Place::Eta(eta));
+        let broken = CheckFault::Leaf { node: self.node };
+        let wide = wide_in(LEAF_SUMS, self.node);
+        judge_sum(sum, narrow_negation(leaf.delta), broken, wide)
+    }
 }
 
 /// Tests the sums on the etas.
 fn judge_etas(split: &Split, sides: &Sides, node: u32, leaf: &Leaf) -> Result<(), CheckFault>
     requires sides { AreSides sides.now }
     requires lambda { AreMultipliers (length (sides_in sides.now)) leaf.now.lambda }
-    ensures { Judges (each_below (blocks_of split.now.part) (leaf_eta_tests (sides_in sides.now) node leaf.now)) result }
+    ensures { Judges (leaf_etas_tests split.now.part (sides_in sides.now) node leaf.now) result }
 {
-    for eta in 0..split.blocks() {
-        judge_eta(sides, node, leaf, eta)?;
-    }
-    Ok(())
+    judge_below(split.blocks(), &Etas { sides, node, leaf })
 }
 
 /// Tests the sum of the right sides.

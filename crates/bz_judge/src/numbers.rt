@@ -1,4 +1,4 @@
-//! Sums of the check, each with the fault that it is refused with where it is wide.
+//! Sums, each with the fault that is answered where it is wide.
 ghost use Rattle.std.specs.Prelude.{◌≡◌, ◌<◌, [], ◌∷◌, IfOk, length};
 ghost use Rattle.bz_algebra.specs.Sums.{AllBelow, dot};
 ghost use Rattle.bz_num.specs.Fold.{IsNarrowSum, products};

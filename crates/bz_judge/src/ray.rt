@@ -1,4 +1,4 @@
-//! Whether the objective improves without end along a certificate's direction.
+//! Whether the objective improves without end along a direction.
 ghost use Rattle.std.specs.Prelude.{◌≡◌, ◌↔◌, ◌<◌, ◌^◌, pos, ◌<ℤ◌, ◌≤ℤ◌, [], ◌∷◌, IfSome, IfOk, IsTrue, length};
 ghost use Rattle.std.specs.List.{AllByRecursion, enumerate_from};
 ghost use Rattle.bz_algebra.specs.Sums.{AllBelow, dot};
@@ -7,35 +7,42 @@ ghost use Rattle.bz_model.specs.Parting.{inner_cost};
 ghost use Rattle.bz_model.specs.Points.{coordinate};
 ghost use Rattle.bz_first.specs.Tests.{Judges, each_of, test};
 ghost use Rattle.bz_model.specs.Rays.{RowAllows};
-ghost use Rattle.bz_judge.specs.RayTests.{ray_bound_tests, ray_cost_tests, ray_integer_tests, ray_row_tests, ray_tests};
+ghost use Rattle.bz_judge.specs.RayTests.{KeepsBounds, ray_bound_tests, ray_cost_tests, ray_integer_tests, ray_row_tests, ray_tests};
 ghost use Rattle.bz_model.specs.PointSums.{row_pairs};
 
 use crate::faults::{CheckFault, RAY_SUMS, wide_in};
 use crate::numbers::sum_at;
 use bz_cut::judge_fold;
+use bz_first::{ItemTests, judge, judge_each};
 use bz_model::{Column, Model, Row, Split, inner_number};
 use bz_num::{Folding, WideSum};
 
-/// Tests that column `j` stays where it is, if it is an integer.
-fn judge_integer(j: usize, column: &Column, ray: &[i128]) -> Result<(), CheckFault>
-    requires { j < length ray.now }
-    ensures { Judges (ray_integer_tests ray.now (j, column.now)) result }
-{
-    if column.integer && ray[j] != 0 {
-        return Err(CheckFault::Ray);
+/// The tests that integer columns stay where they are.
+#[derive(Clone, Copy)]
+struct Stays<'a> {
+    ray: &'a [i128],
+}
+
+impl ItemTests<Column, CheckFault> for Stays<'_> {
+    ghost takes = { λ t e. e.0 < length t.ray.now };
+
+    ghost tests = { λ t. ray_integer_tests t.ray.now };
+
+    fn judge(&self, j: u32, column: &Column) -> Result<(), CheckFault> {
+        if column.integer && self.ray[j as usize] != 0 {
+            return Err(CheckFault::Ray);
+        }
+        Ok(())
     }
-    Ok(())
 }
 
 /// Tests that the integer columns stay where they are.
 fn judge_integers(columns: &[Column], ray: &[i128]) -> Result<(), CheckFault>
-    requires { length ray.now ≡ length columns.now }
+    requires few { length columns.now < 2 ^ 32 }
+    requires length { length ray.now ≡ length columns.now }
     ensures { Judges (each_of (ray_integer_tests ray.now) (enumerate_from 0 columns.now)) result }
 {
-    for (j, column) in columns.iter().enumerate() {
-        judge_integer(j, column, ray)?;
-    }
-    Ok(())
+    judge_each(columns, 0, &Stays { ray })
 }
 
 /// Whether a step keeps the bounds that are there.
@@ -54,21 +61,26 @@ fn row_allows(row: &Row, step: i128) -> bool
 
 /// Whether a step keeps the column's bounds.
 fn column_allows(column: &Column, step: i128) -> bool
-    ensures { IsTrue result ↔ (IfSome column.now.lower (λ f. pos 0 ≤ℤ step) × IfSome column.now.upper (λ f. step ≤ℤ pos 0)) }
+    ensures { IsTrue result ↔ KeepsBounds column.now step }
 {
     is_free(column.lower.is_some(), column.upper.is_some(), step)
 }
 
-/// Tests that the sum of row `r` along the direction is not wide, and keeps the row's sides.
-fn judge_row(r: u32, row: &Row, ray: &[i128]) -> Result<(), CheckFault>
-    requires { AllBelow (length ray.now) row.now.terms }
-    ensures { Judges (ray_row_tests ray.now (r, row.now)) result }
-{
-    let sum = sum_at(&row.terms, ray, wide_in(RAY_SUMS, r))?;
-    if !row_allows(row, sum) {
-        return Err(CheckFault::Ray);
+/// The tests that the direction keeps the sides of rows, whose sums along it are not wide.
+#[derive(Clone, Copy)]
+struct Rows<'a> {
+    ray: &'a [i128],
+}
+
+impl ItemTests<Row, CheckFault> for Rows<'_> {
+    ghost takes = { λ t e. AllBelow (length t.ray.now) e.1.terms };
+
+    ghost tests = { λ t. ray_row_tests t.ray.now };
+
+    fn judge(&self, r: u32, row: &Row) -> Result<(), CheckFault> {
+        let sum = sum_at(&row.terms, self.ray, wide_in(RAY_SUMS, r))?;
+        judge(row_allows(row, sum), CheckFault::Ray)
     }
-    Ok(())
 }
 
 /// Tests that the direction keeps the sides of all rows.
@@ -77,32 +89,32 @@ pub fn judge_ray_rows(rows: &[Row], ray: &[i128]) -> Result<(), CheckFault>
     requires within { AllByRecursion (λ row. AllBelow (length ray.now) row.terms) rows.now }
     ensures { Judges (each_of (ray_row_tests ray.now) (enumerate_from 0 rows.now)) result }
 {
-    for (r, row) in rows.iter().enumerate() {
-        judge_row(r as u32, row, ray)?;
-    }
-    Ok(())
+    judge_each(rows, 0, &Rows { ray })
 }
 
-/// Tests that the direction keeps the bounds of column `j`.
-fn judge_bound(j: usize, column: &Column, ray: &[i128]) -> Result<(), CheckFault>
-    requires { j < length ray.now }
-    ensures { Judges (ray_bound_tests ray.now (j, column.now)) result }
-{
-    if !column_allows(column, ray[j]) {
-        return Err(CheckFault::Ray);
+/// The tests that the direction keeps the bounds of columns.
+#[derive(Clone, Copy)]
+struct Bounds<'a> {
+    ray: &'a [i128],
+}
+
+impl ItemTests<Column, CheckFault> for Bounds<'_> {
+    ghost takes = { λ t e. e.0 < length t.ray.now };
+
+    ghost tests = { λ t. ray_bound_tests t.ray.now };
+
+    fn judge(&self, j: u32, column: &Column) -> Result<(), CheckFault> {
+        judge(column_allows(column, self.ray[j as usize]), CheckFault::Ray)
     }
-    Ok(())
 }
 
 /// Tests that the direction keeps the bounds of all columns.
 fn judge_bounds(columns: &[Column], ray: &[i128]) -> Result<(), CheckFault>
-    requires { length ray.now ≡ length columns.now }
+    requires few { length columns.now < 2 ^ 32 }
+    requires length { length ray.now ≡ length columns.now }
     ensures { Judges (each_of (ray_bound_tests ray.now) (enumerate_from 0 columns.now)) result }
 {
-    for (j, column) in columns.iter().enumerate() {
-        judge_bound(j, column, ray)?;
-    }
-    Ok(())
+    judge_each(columns, 0, &Bounds { ray })
 }
 
 /// The inner cost along the direction, or its first wide place.

@@ -1,4 +1,4 @@
-//! Whether a certificate's value is the master's inner cost with the etas, and the objective that it states is not wide.
+//! Whether a value is the master's inner cost with the etas, and the objective that it states is not wide.
 ghost use Rattle.std.specs.Prelude.{◌≡◌, [], ◌∷◌, IfOk, length, ℤ, ◌+ℤ◌, ◌*ℤ◌};
 ghost use Rattle.bz_algebra.specs.Numbers.{IsNarrow};
 ghost use Rattle.bz_algebra.specs.Sums.{dot};
@@ -8,7 +8,7 @@ ghost use Rattle.bz_model.specs.Points.{coordinate};
 ghost use Rattle.bz_first.specs.Tests.{Judges, test};
 ghost use Rattle.bz_model.specs.PartPoints.{total};
 ghost use Rattle.bz_judge.specs.declared.faults.CheckFault.TheVariants.{Value, Wide};
-ghost use Rattle.bz_judge.specs.ValueTests.{value_tests};
+ghost use Rattle.bz_judge.specs.ValueTests.{stated_tests, sum_tests, value_tests};
 ghost use Rattle.bz_model.specs.PointSums.{stated_pairs, value_pairs};
 
 use crate::costs::begin_cost;
@@ -35,7 +35,7 @@ fn value_sum(split: &Split, master: &Master) -> Result<i128, WideSum>
 fn judge_sum_of_value(split: &Split, master: &Master, value: i128) -> Result<(), CheckFault>
     requires x { length master.now.x ≡ width_of split.now.part 0 }
     requires eta { length master.now.eta ≡ blocks_of split.now.part }
-    ensures { Judges (test (Wide 1 0) (IsNarrowSum (value_pairs (terms_in split.now.part 0 (inner_cost split.now.model)) master.now)) ∷ test Value (value ≡ dot (terms_in split.now.part 0 (inner_cost split.now.model)) (coordinate master.now.x) +ℤ total master.now.eta) ∷ []) result }
+    ensures { Judges (sum_tests split.now.model split.now.part master.now value) result }
 {
     let sum = judge_fold(value_sum(split, master), wide_in(VALUE_SUM, 0))?;
     judge_equal(value, sum, CheckFault::Value)
@@ -43,7 +43,7 @@ fn judge_sum_of_value(split: &Split, master: &Master, value: i128) -> Result<(),
 
 /// Tests that the objective which the value over the denominator states has no wide number.
 fn judge_stated(model: &Model, value: i128, den: i128) -> Result<(), CheckFault>
-    ensures { Judges (test (Wide 2 0) (IsNarrowSum (stated_pairs model.now value den)) ∷ test (Wide 2 1) (IsNarrow (model.now.scale *ℤ den)) ∷ []) result }
+    ensures { Judges (stated_tests model.now value den) result }
 {
     judge_fold(numerator(model, value, den), wide_in(STATED_NUMBERS, 0))?;
     judge_product(model.scale, den, wide_in(STATED_NUMBERS, 1))?;

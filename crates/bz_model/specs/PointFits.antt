@@ -1,5 +1,5 @@
 -- Where the sums of a point are not wide: no sum or product that tells what holds there.
-use Rattle.std.specs.Prelude.{ℕ, ℤ, pos, ◌*ℤ◌, List, [], ◌∷◌}
+use Rattle.std.specs.Prelude.{ℕ, ℤ, ◌*ℤ◌, List}
 use Rattle.std.specs.List.{AllByRecursion, enumerate_from}
 use Rattle.bz_algebra.specs.Numbers.{IsNarrow}
 use Rattle.bz_algebra.specs.Sums.{dot}
@@ -12,7 +12,7 @@ use Rattle.bz_model.specs.declared.parts.Parts.{Parts}
 use Rattle.bz_model.specs.Parting.{inequalities_of, inner_cost, terms_in}
 use Rattle.bz_model.specs.PartPoints.{eta_of}
 use Rattle.bz_model.specs.Points.{coordinate}
-use Rattle.bz_model.specs.PointSums.{block_pairs, row_pairs, stated_pairs}
+use Rattle.bz_model.specs.PointSums.{joined_pairs, row_pairs, stated_pairs}
 
 -- In a sum the pairs stand with their indexes rising.
 
@@ -26,7 +26,7 @@ pub record FitsInMaster (master : Master) (i : Ineq) : Type 0 where
 pub record FitsInBlock (master : Master) (block : BlockPart) (i : Ineq) : Type 0 where
   pub in_master : IsNarrowSum (row_pairs i.master master.x)
   pub in_block : IsNarrowSum (row_pairs i.own block.y)
-  pub together : IsNarrowSum (block_pairs master block i)
+  pub together : IsNarrowSum (joined_pairs block.times (dot i.master (coordinate master.x)) (dot i.own (coordinate block.y)))
   pub side : IsNarrow (i.rhs *ℤ (master.den *ℤ block.times))
 
 -- a block: its denominator and its inequalities

@@ -1,9 +1,6 @@
 -- The products that the sums of a point add up, in their order: indexes rise.
 use Rattle.std.specs.Prelude.{ℕ, ℤ, pos, negsuc, List, [], ◌∷◌, ◌++◌, map, if◌then◌else◌}
 use Rattle.bz_num.specs.Fold.{pairs_at}
-use Rattle.bz_algebra.specs.Sums.{dot}
-use Rattle.bz_model.specs.declared.parts.BlockPart.{BlockPart}
-use Rattle.bz_model.specs.declared.records.Ineq.{Ineq}
 use Rattle.bz_model.specs.declared.parts.Master.{Master}
 use Rattle.bz_model.specs.declared.records.Model.{Model}
 use Rattle.bz_model.specs.Points.{coordinate}
@@ -12,14 +9,13 @@ use Rattle.bz_model.specs.Points.{coordinate}
 abbrev pub row_pairs : List (ℕ × ℤ) → List ℤ → List (ℤ × ℤ)
 row_pairs row x = pairs_at row (coordinate x)
 
--- an inequality's sum in the master times `times`, and then its sum in the block
-abbrev pub block_pairs : Master → BlockPart → Ineq → List (ℤ × ℤ)
-block_pairs master block i =
-    (block.times, dot i.master (coordinate master.x)) ∷ (pos 1, dot i.own (coordinate block.y)) ∷ []
-
 -- the number as a product
 abbrev pub times_one : ℤ → ℤ × ℤ
 times_one e = (pos 1, e)
+
+-- the sum of an inequality in the master times a block's `times`, and then its sum in the block
+abbrev pub joined_pairs : ℤ → ℤ → ℤ → List (ℤ × ℤ)
+joined_pairs times in_master in_block = (times, in_master) ∷ times_one in_block ∷ []
 
 -- the cost at the master's point, and then the etas
 abbrev pub value_pairs : List (ℕ × ℤ) → Master → List (ℤ × ℤ)

@@ -1,5 +1,5 @@
 -- Boxes: for each integer column, in file order, the ends that its coordinate lies between.
-use Rattle.std.specs.Prelude.{ℤ, pos, ◌≡◌, ◌*ℤ◌, ◌-ℤ◌, ◌+ℤ◌, ◌<ℤ◌, ◌≤ℤ◌, List, length, IfSome}
+use Rattle.std.specs.Prelude.{ℤ, ◌≡◌, ◌*ℤ◌, ◌≤ℤ◌, List, length, IfSome}
 use Rattle.std.specs.List.{AllByRecursion, enumerate_from}
 use Rattle.bz_num.specs.Rounding.{IsCeiling, IsFloor}
 use Rattle.bz_model.specs.declared.Model.{Model}

@@ -14,7 +14,7 @@ pub fn splits_cover()
     ensures { SplitsCover }
 {}
 
-/// A leaf that holds still holds when cuts are appended. Nothing runs.
+/// A leaf that holds still holds when cuts are appended, and one that fits still fits. Nothing runs.
 pub fn leaves_keep()
     ensures { LeavesKeep }
 {}

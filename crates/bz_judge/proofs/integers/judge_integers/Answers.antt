@@ -1,44 +1,35 @@
-use Rattle.std.proofs.Common.{arith, ◌≡◌, ◌<◌, length, get_or}
-use Rattle.bz_model.specs.Parting.{inequalities_of, integers_of, position_of}
-use Rattle.bz_first.specs.Tests.{AllHold, IsFirstFault}
-use Rattle.bz_tree.specs.Ends.{box_of}
-use Rattle.bz_judge.specs.PointTests.{integer_tests}
-use Rattle.bz_judge.proofs.BetweenTests.{item_at, position_is, position_within_master, same_count}
+use Rattle.std.proofs.Common.{rules, arith, ◌≡◌, ◌+◌, ◌*◌, ◌<◌, ◌^◌, length}
+use Rattle.std.specs.List.{AllByRecursion, enumerate_from}
+use Rattle.bz_first.proofs.Facts.{with_numbers, within_numbers}
+use Rattle.bz_first.proofs.Lists.{all_weaker}
+use Rattle.bz_model.specs.Parting.{integers_of, width_of}
 use Rattle.bz_model.proofs.InnerCosts.{decomposed}
-use Rattle.bz_first.proofs.Numbered.{numbered_next, numbered_stop, numbered_end}
+use Rattle.bz_tree.specs.Ends.{box_of}
+use Rattle.bz_judge.specs.IntegerTests.{IsIntegerOf}
+use Rattle.bz_judge.proofs.BetweenTests.{positions_within, same_count, tests_by_position}
 use Rattle.bz_judge.proofs.integers.judge_integers.Goals as goal
 
-pub judge_integer-requires-clause-position : goal.judge_integer-requires-clause-position
-judge_integer-requires-clause-position c =
-    let count : length c.args.positions.now ≡ length (integers_of c.args.split.now.model) = same_count c.args.split.now.model c.args.split.now.part c.args.positions.now c.requires.positions in
-    let within : c.loop-k.k < length (integers_of c.args.split.now.model) = omega (arith, c.loop-k-test.true) in
-    rw (c.requires.positions, c.requires.x) (position_within_master c.args.split.now.model c.args.split.now.part c.loop-k.k 0 (decomposed c.args.split.now c.inequalities.ensures.split) within)
-
-pub returns-in_err-judge_integer : goal.returns-in_err-judge_integer
-returns-in_err-judge_integer c =
+pub judge_each-requires-clause-takes : goal.judge_each-requires-clause-takes
+judge_each-requires-clause-takes c =
     let m = c.args.split.now.model in
     let part = c.args.split.now.part in
-    let count : length c.args.positions.now ≡ length (integers_of m) = same_count m part c.args.positions.now c.requires.positions in
-    let within : c.loop-k.k < length (integers_of m) = omega (arith, c.loop-k-test.true) in
-    let item = item_at (integers_of m) c.loop-k.k within in
-    let place : get_or c.args.positions.now c.loop-k.k 0 ≡ position_of part item.0.0 = position_is m part c.args.positions.now c.loop-k.k item.0 c.requires.positions within item.1 in
-    let tests = integer_tests part (box_of c.args.root.now) c.args.master.now (length (inequalities_of m part 0)) in
-    let fault : IsFirstFault (tests (c.loop-k.k, item.0)) c.in_err-judge_integer.field-0.0 = rw (place, c.inequalities.ensures.value) at c.in_err-judge_integer.ensures in
-    numbered_stop tests 0 (integers_of m) c.loop-k.k c.loop-k.k item.0 _ c.in_err-judge_integer.field-0.0 c.from_residual.result c.from_residual.ensures.1 within (omega arith) item.1 fault c.loop-k.invariant
-
-pub loop-k-preserved : goal.loop-k-preserved
-loop-k-preserved c =
-    let m = c.args.split.now.model in
-    let part = c.args.split.now.part in
-    let count : length c.args.positions.now ≡ length (integers_of m) = same_count m part c.args.positions.now c.requires.positions in
-    let within : c.loop-k.k < length (integers_of m) = omega (arith, c.loop-k-test.true) in
-    let item = item_at (integers_of m) c.loop-k.k within in
-    let place : get_or c.args.positions.now c.loop-k.k 0 ≡ position_of part item.0.0 = position_is m part c.args.positions.now c.loop-k.k item.0 c.requires.positions within item.1 in
-    let tests = integer_tests part (box_of c.args.root.now) c.args.master.now (length (inequalities_of m part 0)) in
-    let hold : AllHold (tests (c.loop-k.k, item.0)) = rw place at c.in_ok-judge_integer.ensures in
-    numbered_next tests 0 (integers_of m) c.loop-k.k c.loop-k.k item.0 _ within (omega arith) item.1 hold c.loop-k.invariant
+    let positions = c.args.positions.now in
+    let sides = length c.inequalities.result.now in
+    let within : AllByRecursion (λ p. p < width_of part 0) positions = rw c.requires.positions (positions_within m part (decomposed c.args.split.now c.inequalities.ensures.split)) in
+    let count : length positions ≡ length (integers_of m) = rw c.requires.positions (same_count m part) in
+    let few : sides + 2 * length positions < 2 ^ 32 = search rules in
+    all_weaker _ (IsIntegerOf c.args.master.now (box_of c.args.root.now) sides) (enumerate_from 0 positions)
+    (λ e h. record {
+      den = c.requires.positive;
+      place = omega (arith, few, h.1);
+      position = rw c.requires.x h.2;
+      lower = rw (c.requires.root.lowers, ← count) h.1;
+      upper = rw (c.requires.root.uppers, ← count) h.1;
+    })
+    (within_numbers (λ e. e.1 < width_of part 0) 0 positions 0 (length positions) (omega arith) (omega arith) (with_numbers (λ p. p < width_of part 0) 0 positions within))
 
 pub returns : goal.returns
 returns c =
-    let count : length c.args.positions.now ≡ length (integers_of c.args.split.now.model) = same_count c.args.split.now.model c.args.split.now.part c.args.positions.now c.requires.positions in
-    numbered_end (integer_tests c.args.split.now.part (box_of c.args.root.now) c.args.master.now (length (inequalities_of c.args.split.now.model c.args.split.now.part 0))) 0 (integers_of c.args.split.now.model) c.loop-k.k _ (omega (arith, c.loop-k-test.false)) c.loop-k.invariant
+    let m = c.args.split.now.model in
+    let part = c.args.split.now.part in
+    rw (c.requires.positions, c.inequalities.ensures.value, tests_by_position m part (box_of c.args.root.now) c.args.master.now) at c.judge_each.ensures

@@ -1,5 +1,5 @@
 use Rattle.bz_judge.proofs.LeavesTold.{leaf_fits, leaf_tested, leaf_told}
-use Rattle.bz_judge.proofs.PointsTold.{block_fits, block_rows, block_tested, cost_fits, cost_tested, ray_cost_fits, ray_rows_fit, ray_tested, ray_told, rows_fit, rows_tested, rows_told}
+use Rattle.bz_judge.proofs.PointsTold.{block_fits, block_rows, block_tested, cost_fits, cost_tested, integers_told, integers_tested, point_fits, point_tested, point_told, ray_cost_fits, ray_rows_fit, ray_tested, ray_told, rows_fit, rows_tested, rows_told}
 use Rattle.bz_judge.proofs.laws.tests_tell.Goals as goal
 
 pub returns : goal.returns
@@ -8,6 +8,11 @@ returns c = record {
   block = λ m part master b block. (
     λ h. (block_rows m part master (b, block) h, block_fits m part master (b, block) h),
     λ g. block_tested m part master (b, block) g.0 g.1,
+  );
+  integers = λ m part box master. (integers_told m part box master, integers_tested m part box master);
+  point = λ m part root parts. (
+    λ h. (point_told m part root parts h, point_fits m part root parts h),
+    λ g. point_tested m part root parts g.0 g.1,
   );
   cost = λ m part master b block. (
     λ h. (h.1.1.0, cost_fits m part master (b, block) h),

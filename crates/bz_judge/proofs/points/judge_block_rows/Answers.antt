@@ -1,13 +1,12 @@
-use Rattle.std.proofs.Common.{arith}
-use Rattle.bz_judge.specs.PointTests.{in_block_tests}
-use Rattle.bz_first.proofs.Numbered.{numbered_next, numbered_stop, numbered_end}
+use Rattle.std.proofs.Common.{◌≡◌, ◌*ℤ◌, length, to_z-of_z}
+use Rattle.bz_first.proofs.Facts.{with_numbers}
+use Rattle.bz_first.proofs.Lists.{all_weaker}
+use Rattle.bz_judge.specs.LeftSides.{FitsLengths}
 use Rattle.bz_judge.proofs.points.judge_block_rows.Goals as goal
 
-pub returns-in_err-judge_in_block : goal.returns-in_err-judge_in_block
-returns-in_err-judge_in_block c = numbered_stop (in_block_tests c.args.master.now c.args.b c.args.block.now) 0 c.args.rows.now c.loop-n.n c.loop-n.n c.index-rows-n.result _ c.in_err-judge_in_block.field-0.0 c.from_residual.result c.from_residual.ensures.1 c.loop-n-test.true (omega arith) c.index-rows-n.is c.in_err-judge_in_block.ensures c.loop-n.invariant
-
-pub loop-n-preserved : goal.loop-n-preserved
-loop-n-preserved c = numbered_next (in_block_tests c.args.master.now c.args.b c.args.block.now) 0 c.args.rows.now c.loop-n.n c.loop-n.n c.index-rows-n.result _ c.loop-n-test.true (omega arith) c.index-rows-n.is c.in_ok-judge_in_block.ensures c.loop-n.invariant
-
-pub returns : goal.returns
-returns c = numbered_end (in_block_tests c.args.master.now c.args.b c.args.block.now) 0 c.args.rows.now c.loop-n.n _ c.loop-n-test.false c.loop-n.invariant
+pub judge_each-requires-clause-takes : goal.judge_each-requires-clause-takes
+judge_each-requires-clause-takes c =
+    let x = length c.args.master.now.x in
+    let y = length c.args.block.now.y in
+    rw (to_z-of_z c.ranges.den) (with_numbers (λ i. FitsLengths x y i × (c.args.den ≡ c.args.master.now.den *ℤ c.args.block.now.times)) 0 c.args.rows.now
+    (all_weaker (FitsLengths x y) (λ i. FitsLengths x y i × (c.args.den ≡ c.args.master.now.den *ℤ c.args.block.now.times)) c.args.rows.now (λ i h. (h, c.requires.den)) c.requires.fits))

@@ -1,13 +1,7 @@
-use Rattle.std.proofs.Common.{arith}
-use Rattle.bz_judge.specs.PointTests.{in_master_tests}
-use Rattle.bz_first.proofs.Numbered.{numbered_next, numbered_stop, numbered_end}
+use Rattle.std.proofs.Common.{length}
+use Rattle.bz_algebra.specs.Sums.{AllBelow}
+use Rattle.bz_first.proofs.Facts.{with_numbers}
 use Rattle.bz_judge.proofs.points.judge_master_rows.Goals as goal
 
-pub returns-in_err-judge_in_master : goal.returns-in_err-judge_in_master
-returns-in_err-judge_in_master c = numbered_stop (in_master_tests c.args.master.now) 0 c.args.rows.now c.loop-n.n c.loop-n.n c.index-rows-n.result _ c.in_err-judge_in_master.field-0.0 c.from_residual.result c.from_residual.ensures.1 c.loop-n-test.true (omega arith) c.index-rows-n.is c.in_err-judge_in_master.ensures c.loop-n.invariant
-
-pub loop-n-preserved : goal.loop-n-preserved
-loop-n-preserved c = numbered_next (in_master_tests c.args.master.now) 0 c.args.rows.now c.loop-n.n c.loop-n.n c.index-rows-n.result _ c.loop-n-test.true (omega arith) c.index-rows-n.is c.in_ok-judge_in_master.ensures c.loop-n.invariant
-
-pub returns : goal.returns
-returns c = numbered_end (in_master_tests c.args.master.now) 0 c.args.rows.now c.loop-n.n _ c.loop-n-test.false c.loop-n.invariant
+pub judge_each-requires-clause-takes : goal.judge_each-requires-clause-takes
+judge_each-requires-clause-takes c = with_numbers (λ i. AllBelow (length c.args.master.now.x) i.own) 0 c.args.rows.now c.requires.within

@@ -1,7 +1,0 @@
--- The equations so far hold.
-use Rattle.bz_cut.specs.CutTests.{own_tests}
-use Rattle.bz_first.specs.Tests.{AllHold, each_below}
-use Rattle.bz_cut.proofs.cuts.judge_own.Given as goal
-
-abbrev pub invariant-loop-position : goal.invariant-loop-position
-invariant-loop-position l = AllHold (each_below l.position (own_tests l.split.model l.split.part l.cut))

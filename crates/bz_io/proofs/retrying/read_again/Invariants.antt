@@ -1,0 +1,11 @@
+use Rattle.std.proofs.Common.{◌-◌, ◌^◌}
+use Rattle.bz_io.specs.Trying.{Interrupts}
+use Rattle.bz_io.proofs.retrying.read_again.Given as goal
+
+abbrev pub invariant-loop-tries : goal.invariant-loop-tries
+invariant-loop-tries g l = record {
+  tried : Interrupts (g.R.TryRead.may_read) l.tries (l.initial.from, l.initial.piece) (l.from, l.piece);
+}
+
+abbrev pub decreases-loop-tries : goal.decreases-loop-tries
+decreases-loop-tries g l = (2 ^ 64 - 1) - l.tries
