@@ -1,3 +1,4 @@
+pub mod Laws
 pub mod Meanings
 pub mod Posed
 pub mod Tasks
