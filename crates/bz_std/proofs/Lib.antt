@@ -1,3 +1,4 @@
 pub mod Columns
+pub mod Combined
 pub mod Crossing
 pub mod Lines

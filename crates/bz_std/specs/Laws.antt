@@ -1,11 +1,12 @@
 -- What is proved of programs over variables of either sign and of the programs over columns that stand for them.
-use Rattle.std.specs.Prelude.{ℕ, ◌*◌, ℤ, true, false, List}
+use Rattle.std.specs.Prelude.{ℕ, ◌*◌, ◌≡◌, ℤ, pos, ◌*ℤ◌, ◌≤ℤ◌, ◌<ℤ◌, true, false, List}
+use Rattle.bz_algebra.specs.Sums.{dot}
 use Rattle.bz_tableau.specs.Answers.{IsEmpty, IsLeast, IsRay}
 use Rattle.bz_tableau.specs.Dense.{entry}
 use Rattle.bz_tableau.specs.Programs.{program_of}
 use Rattle.bz_tableau.specs.declared.answers.Vals.{Vals}
 use Rattle.bz_tableau.specs.declared.programs.Lp.{Lp}
-use Rattle.bz_std.specs.Meanings.{differences, IsEmptyBy, IsFallAlong, IsLeastAt, IsLeastRise}
+use Rattle.bz_std.specs.Meanings.{differences, IsEmptyBy, IsFallAlong, IsLeastAt, IsLeastRise, IsPossible, MeetsWithin}
 use Rattle.bz_std.specs.Posed.{IsPosed, IsProgramOf, Posed}
 
 -- Each answer over the columns is one over the variables that they stand for. The least s of the relaxed program is the
@@ -21,3 +22,14 @@ pub record AnswersCross : Type 0 where
       IsEmpty (program_of lp) basis y → IsEmptyBy q (entry y)
   pub ray : (q : Posed) (lp : Lp) (basis : List ℕ) (column : ℕ) (z : Vals) (d : List ℤ) → IsProgramOf q lp → IsPosed q →
       IsRay (program_of lp) basis column z d → IsFallAlong q (differences (entry d))
+
+-- Which programs have a point. Multipliers that show that there is none are right, and so is a least rise above 0; one
+-- of 0 is a point's. A least cost is least.
+pub record PointsAreDecided : Type 0 where
+  pub empty : (q : Posed) (y : ℕ → ℤ) → IsPosed q → IsEmptyBy q y → ¬ IsPossible q
+  pub rises : (q : Posed) (v : ℕ → ℤ) (s den : ℤ) (y : ℕ → ℤ) (by : ℤ) → IsPosed q → IsLeastRise q v s den y by →
+      (pos 0) <ℤ s → ¬ IsPossible q
+  pub stands : (q : Posed) (v : ℕ → ℤ) (s den : ℤ) (y : ℕ → ℤ) (by : ℤ) → IsLeastRise q v s den y by →
+      s ≡ pos 0 → MeetsWithin q v den (pos 0)
+  pub least : (q : Posed) (v : ℕ → ℤ) (den : ℤ) (y : ℕ → ℤ) (by : ℤ) (other : IsPossible q) → IsPosed q →
+      IsLeastAt q v den y by → (dot q.cost v *ℤ other.den) ≤ℤ (dot q.cost other.v *ℤ den)

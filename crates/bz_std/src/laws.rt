@@ -1,7 +1,13 @@
 //! What is proved of the programs of a split.
-ghost use Rattle.bz_std.specs.Laws.{AnswersCross};
+ghost use Rattle.bz_std.specs.Laws.{AnswersCross, PointsAreDecided};
 
 /// What an answer says of the columns of a program, it says of the variables that they stand for.
 pub fn answers_cross()
     ensures { AnswersCross }
+{}
+
+/// Multipliers that leave no variable and a right side below 0 show that a program has no point; a least rise above 0
+/// shows it too, and one of 0 comes with a point. No point costs less than a least one.
+pub fn points_are_decided()
+    ensures { PointsAreDecided }
 {}

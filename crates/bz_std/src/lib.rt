@@ -5,4 +5,4 @@
 
 mod laws;
 
-pub use laws::answers_cross;
+pub use laws::{answers_cross, points_are_decided};
