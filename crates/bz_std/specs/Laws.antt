@@ -1,13 +1,23 @@
 -- What is proved of programs over variables of either sign and of the programs over columns that stand for them.
-use Rattle.std.specs.Prelude.{ℕ, ◌*◌, ◌≡◌, ℤ, pos, ◌*ℤ◌, ◌≤ℤ◌, ◌<ℤ◌, true, false, List}
+use Rattle.std.specs.Prelude.{ℕ, ◌*◌, ◌<◌, ◌≤◌, ◌≡◌, ℤ, pos, ◌*ℤ◌, ◌≤ℤ◌, ◌<ℤ◌, true, false, List, length}
 use Rattle.bz_algebra.specs.Sums.{dot}
+use Rattle.bz_model.specs.declared.Master.{Master}
+use Rattle.bz_model.specs.declared.Model.{Model}
+use Rattle.bz_model.specs.Decomposed.{IsDecomposed}
+use Rattle.bz_model.specs.Parting.{blocks_of, inequalities_of}
+use Rattle.bz_cut.specs.declared.Cut.{Cut}
+use Rattle.bz_cut.specs.declared.Mode.{Mode}
+use Rattle.bz_cut.specs.Cuts.{IsValid}
+use Rattle.bz_cut.specs.Points.{CutsOff}
 use Rattle.bz_tableau.specs.Answers.{IsEmpty, IsLeast, IsRay}
 use Rattle.bz_tableau.specs.Dense.{entry}
 use Rattle.bz_tableau.specs.Programs.{program_of}
 use Rattle.bz_tableau.specs.declared.answers.Vals.{Vals}
 use Rattle.bz_tableau.specs.declared.programs.Lp.{Lp}
+use Rattle.bz_std.specs.CutsFrom.{BalancesCost, IsCutFrom, IsNoCut, IsSeparationCut, cost_multiplier}
 use Rattle.bz_std.specs.Meanings.{differences, IsEmptyBy, IsFallAlong, IsLeastAt, IsLeastRise, IsPossible, MeetsWithin}
 use Rattle.bz_std.specs.Posed.{IsPosed, IsProgramOf, Posed}
+use Rattle.bz_std.specs.Tasks.{floor, separation}
 
 -- Each answer over the columns is one over the variables that they stand for. The least s of the relaxed program is the
 -- number of its last column.
@@ -33,3 +43,29 @@ pub record PointsAreDecided : Type 0 where
       s ≡ pos 0 → MeetsWithin q v den (pos 0)
   pub least : (q : Posed) (v : ℕ → ℤ) (den : ℤ) (y : ℕ → ℤ) (by : ℤ) (other : IsPossible q) → IsPosed q →
       IsLeastAt q v den y by → (dot q.cost v *ℤ other.den) ≤ℤ (dot q.cost other.v *ℤ den)
+
+-- Cuts of a block are valid where their multipliers balance the block's cost, as those of a separation do in both modes
+-- and those of a floor, whose cut has a number above 0 at its eta.
+pub record CutsAreValid : Type 0 where
+  pub balanced : (m : Model) (part : List ℕ) (b : ℕ) (y : ℕ → ℤ) (raw : ℤ) (cut : Cut) → 0 < b → b ≤ blocks_of part →
+      BalancesCost m part b y raw → IsCutFrom m part b y raw cut → IsValid m part cut
+  pub of_separation : (m : Model) (part : List ℕ) (point : Master) (b : ℕ) (way : Mode)
+      (v : ℕ → ℤ) (s den : ℤ) (y : ℕ → ℤ) (by : ℤ) (cut : Cut) → 0 < b → b ≤ blocks_of part →
+      IsLeastRise (separation m part point b way) v s den y by → IsSeparationCut m part b way y cut → IsValid m part cut
+  pub of_floor : (m : Model) (part : List ℕ) (b : ℕ) (v : ℕ → ℤ) (den : ℤ) (y : ℕ → ℤ) (by : ℤ) (cut : Cut) →
+      0 < b → b ≤ blocks_of part →
+      IsLeastAt (floor m part b) v den y by → IsCutFrom m part b y by cut → IsValid m part cut
+  pub has_eta : (m : Model) (part : List ℕ) (b : ℕ) (v : ℕ → ℤ) (den : ℤ) (y : ℕ → ℤ) (by : ℤ) (cut : Cut) →
+      IsLeastAt (floor m part b) v den y by → IsCutFrom m part b y by cut → (pos 0) <ℤ cut.p0
+
+-- Where the least rise of a separation is above 0, not all numbers of its cut are 0 before their division, and the cut
+-- cuts off the point.
+pub record SeparationsCutOff : Type 0 where
+  pub makes : (m : Model) (part : List ℕ) (point : Master) (b : ℕ) (way : Mode)
+      (v : ℕ → ℤ) (s den : ℤ) (y : ℕ → ℤ) (by : ℤ) → IsDecomposed m part →
+      IsLeastRise (separation m part point b way) v s den y by → (pos 0) <ℤ s →
+      ¬ IsNoCut m part b y (cost_multiplier way (length (inequalities_of m part b)) y)
+  pub cuts_off : (m : Model) (part : List ℕ) (point : Master) (b : ℕ) (way : Mode)
+      (v : ℕ → ℤ) (s den : ℤ) (y : ℕ → ℤ) (by : ℤ) (cut : Cut) → IsDecomposed m part →
+      IsLeastRise (separation m part point b way) v s den y by → (pos 0) <ℤ s →
+      IsSeparationCut m part b way y cut → CutsOff cut point

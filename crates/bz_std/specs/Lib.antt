@@ -1,3 +1,4 @@
+pub mod CutsFrom
 pub mod Laws
 pub mod Meanings
 pub mod Posed

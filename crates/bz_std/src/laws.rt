@@ -1,5 +1,5 @@
 //! What is proved of the programs of a split.
-ghost use Rattle.bz_std.specs.Laws.{AnswersCross, PointsAreDecided};
+ghost use Rattle.bz_std.specs.Laws.{AnswersCross, CutsAreValid, PointsAreDecided, SeparationsCutOff};
 
 /// What an answer says of the columns of a program, it says of the variables that they stand for.
 pub fn answers_cross()
@@ -10,4 +10,14 @@ pub fn answers_cross()
 /// shows it too, and one of 0 comes with a point. No point costs less than a least one.
 pub fn points_are_decided()
     ensures { PointsAreDecided }
+{}
+
+/// The cuts that the multipliers of a separation or a floor make are valid.
+pub fn made_cuts_are_valid()
+    ensures { CutsAreValid }
+{}
+
+/// Where a point of the master can't be completed in a block, the separation's cut cuts it off.
+pub fn separations_cut_off()
+    ensures { SeparationsCutOff }
 {}

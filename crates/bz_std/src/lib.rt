@@ -5,4 +5,4 @@
 
 mod laws;
 
-pub use laws::{answers_cross, points_are_decided};
+pub use laws::{answers_cross, made_cuts_are_valid, points_are_decided, separations_cut_off};
