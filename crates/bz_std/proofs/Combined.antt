@@ -1,8 +1,8 @@
 -- The rows of a posed program times multipliers, at a point.
-use Rattle.std.specs.Prelude.{ℕ, ◌<◌, ◌≡◌, ℤ, pos, ◌+ℤ◌, ◌-ℤ◌, ◌*ℤ◌, neg_ℤ, ◌≤ℤ◌, ◌<ℤ◌, List, length}
-use Rattle.std.proofs.Common.{refl, ap, sym, subst, ◌∙◌, arith}
+use Rattle.std.specs.Prelude.{ℕ, ◌<◌, ◌≡◌, ℤ, pos, ◌+ℤ◌, ◌*ℤ◌, neg_ℤ, ◌≤ℤ◌, ◌<ℤ◌, length}
+use Rattle.std.proofs.Common.{ap, sym, subst, ◌∙◌, arith}
 use Rattle.std.proofs.lemmas.Int.{ints}
-use Rattle.bz_algebra.specs.Sums.{dot, coef, upto, AllBelow}
+use Rattle.bz_algebra.specs.Sums.{dot, coef, upto}
 use Rattle.bz_algebra.proofs.Ring.{*ℤ_assoc, add_zero, cancel_lt_right, mul_le_left, mul_positive, neg_mul, zero_mul}
 use Rattle.bz_algebra.proofs.SumLemmas.{dot_all, upto_le, upto_neg, upto_rows, upto_same, upto_scale, upto_scale_right, upto_zeros}
 use Rattle.bz_tableau.proofs.TrueAnswers.{at_most}

@@ -3,6 +3,8 @@ pub mod Combined
 pub mod Crossing
 pub mod CutsMade
 pub mod Entries
+pub mod LeavesMade
 pub mod Lines
+pub mod Moved
 pub mod PosedTasks
 pub mod RowSums

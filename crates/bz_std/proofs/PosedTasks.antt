@@ -1,7 +1,7 @@
 -- The rows of the three programs speak of their variables.
-use Rattle.std.specs.Prelude.{ℕ, zero, suc, ◌+◌, ◌-◌, ◌<◌, ◌≤◌, ◌≡◌, ℤ, pos, negsuc, List, [], ◌∷◌, ◌++◌, length, map}
+use Rattle.std.specs.Prelude.{ℕ, zero, suc, ◌+◌, ◌<◌, ◌≤◌, ℤ, pos, negsuc, List, [], ◌∷◌, ◌++◌, map}
 use Rattle.std.specs.List.{AllByRecursion, enumerate_from, flat_map}
-use Rattle.std.proofs.Common.{ap, sym, ◌∙◌, arith}
+use Rattle.std.proofs.Common.{arith}
 use Rattle.bz_algebra.specs.Sums.{AllBelow}
 use Rattle.bz_num.specs.Row.{entry_at}
 use Rattle.bz_model.specs.declared.Ineq.{Ineq}

@@ -1,5 +1,6 @@
 -- What is proved of programs over variables of either sign and of the programs over columns that stand for them.
 use Rattle.std.specs.Prelude.{ℕ, ◌*◌, ◌<◌, ◌≤◌, ◌≡◌, ℤ, pos, ◌*ℤ◌, ◌≤ℤ◌, ◌<ℤ◌, true, false, List, length}
+use Rattle.std.specs.List.{AllByRecursion}
 use Rattle.bz_algebra.specs.Sums.{dot}
 use Rattle.bz_model.specs.declared.Master.{Master}
 use Rattle.bz_model.specs.declared.Model.{Model}
@@ -7,17 +8,22 @@ use Rattle.bz_model.specs.Decomposed.{IsDecomposed}
 use Rattle.bz_model.specs.Parting.{blocks_of, inequalities_of}
 use Rattle.bz_cut.specs.declared.Cut.{Cut}
 use Rattle.bz_cut.specs.declared.Mode.{Mode}
+use Rattle.bz_cut.specs.declared.Mode.TheVariants as mode
 use Rattle.bz_cut.specs.Cuts.{IsValid}
 use Rattle.bz_cut.specs.Points.{CutsOff}
+use Rattle.bz_tree.specs.declared.Leaf.{Leaf}
+use Rattle.bz_tree.specs.Boxes.{Box}
+use Rattle.bz_tree.specs.Leaves.{LeafHolds}
 use Rattle.bz_tableau.specs.Answers.{IsEmpty, IsLeast, IsRay}
 use Rattle.bz_tableau.specs.Dense.{entry}
 use Rattle.bz_tableau.specs.Programs.{program_of}
 use Rattle.bz_tableau.specs.declared.answers.Vals.{Vals}
 use Rattle.bz_tableau.specs.declared.programs.Lp.{Lp}
 use Rattle.bz_std.specs.CutsFrom.{BalancesCost, IsCutFrom, IsNoCut, IsSeparationCut, cost_multiplier}
+use Rattle.bz_std.specs.LeavesFrom.{IsLeafFrom}
 use Rattle.bz_std.specs.Meanings.{differences, IsEmptyBy, IsFallAlong, IsLeastAt, IsLeastRise, IsPossible, MeetsWithin}
 use Rattle.bz_std.specs.Posed.{IsPosed, IsProgramOf, Posed}
-use Rattle.bz_std.specs.Tasks.{floor, separation}
+use Rattle.bz_std.specs.Tasks.{IsCutOfSplit, floor, node, node_cost, separation}
 
 -- Each answer over the columns is one over the variables that they stand for. The least s of the relaxed program is the
 -- number of its last column.
@@ -69,3 +75,33 @@ pub record SeparationsCutOff : Type 0 where
       (v : ℕ → ℤ) (s den : ℤ) (y : ℕ → ℤ) (by : ℤ) (cut : Cut) → IsDecomposed m part →
       IsLeastRise (separation m part point b way) v s den y by → (pos 0) <ℤ s →
       IsSeparationCut m part b way y cut → CutsOff cut point
+
+-- The leaf that an answer of a node makes holds over the node's box and cuts: that of a least cost, which is its bound
+-- over its delta, and that of a node without a point, with delta 0.
+pub record LeavesAreRight : Type 0 where
+  pub least : (m : Model) (part : List ℕ) (box : Box) (cuts : List Cut)
+      (v : ℕ → ℤ) (den : ℤ) (y : ℕ → ℤ) (by : ℤ) (leaf : Leaf) →
+      IsDecomposed m part → AllByRecursion (IsCutOfSplit part) cuts →
+      IsLeastAt (node m part box cuts mode.Cost) v den y by →
+      IsLeafFrom (node m part box cuts mode.Cost) y by leaf → LeafHolds m part box cuts leaf
+  pub delta : (m : Model) (part : List ℕ) (box : Box) (cuts : List Cut)
+      (v : ℕ → ℤ) (den : ℤ) (y : ℕ → ℤ) (by : ℤ) (leaf : Leaf) →
+      IsLeastAt (node m part box cuts mode.Cost) v den y by →
+      IsLeafFrom (node m part box cuts mode.Cost) y by leaf → (pos 0) <ℤ leaf.delta
+  pub bound : (m : Model) (part : List ℕ) (box : Box) (cuts : List Cut)
+      (v : ℕ → ℤ) (den : ℤ) (y : ℕ → ℤ) (by : ℤ) (leaf : Leaf) →
+      IsLeastAt (node m part box cuts mode.Cost) v den y by →
+      IsLeafFrom (node m part box cuts mode.Cost) y by leaf →
+      leaf.bound *ℤ den ≡ dot (node_cost m part mode.Cost) v *ℤ leaf.delta
+  pub empty : (m : Model) (part : List ℕ) (box : Box) (cuts : List Cut) (way : Mode) (y : ℕ → ℤ) (leaf : Leaf) →
+      IsDecomposed m part → AllByRecursion (IsCutOfSplit part) cuts →
+      IsEmptyBy (node m part box cuts way) y →
+      IsLeafFrom (node m part box cuts way) y (pos 0) leaf → LeafHolds m part box cuts leaf
+
+-- Of each of the three programs the terms are of its variables.
+pub record TasksArePosed : Type 0 where
+  pub of_separation : (m : Model) (part : List ℕ) (point : Master) (b : ℕ) (way : Mode) → IsDecomposed m part →
+      IsPosed (separation m part point b way)
+  pub of_floor : (m : Model) (part : List ℕ) (b : ℕ) → IsDecomposed m part → IsPosed (floor m part b)
+  pub of_node : (m : Model) (part : List ℕ) (box : Box) (cuts : List Cut) (way : Mode) → IsDecomposed m part →
+      AllByRecursion (IsCutOfSplit part) cuts → IsPosed (node m part box cuts way)

@@ -1,5 +1,5 @@
 //! What is proved of the programs of a split.
-ghost use Rattle.bz_std.specs.Laws.{AnswersCross, CutsAreValid, PointsAreDecided, SeparationsCutOff};
+ghost use Rattle.bz_std.specs.Laws.{AnswersCross, CutsAreValid, LeavesAreRight, PointsAreDecided, SeparationsCutOff, TasksArePosed};
 
 /// What an answer says of the columns of a program, it says of the variables that they stand for.
 pub fn answers_cross()
@@ -20,4 +20,14 @@ pub fn made_cuts_are_valid()
 /// Where a point of the master can't be completed in a block, the separation's cut cuts it off.
 pub fn separations_cut_off()
     ensures { SeparationsCutOff }
+{}
+
+/// The leaf that a node's multipliers make holds over its box and cuts.
+pub fn made_leaves_hold()
+    ensures { LeavesAreRight }
+{}
+
+/// The rows and the cost of each of the three programs speak of its variables.
+pub fn tasks_are_posed()
+    ensures { TasksArePosed }
 {}

@@ -5,4 +5,7 @@
 
 mod laws;
 
-pub use laws::{answers_cross, made_cuts_are_valid, points_are_decided, separations_cut_off};
+pub use laws::{
+    answers_cross, made_cuts_are_valid, made_leaves_hold, points_are_decided, separations_cut_off,
+    tasks_are_posed,
+};
