@@ -24,8 +24,8 @@ abbrev pub IsLowestCut : Cut → Type 0
 IsLowestCut cut =
     (d : ℕ) → DividesAll d cut.alpha → d ∣ unsigned_abs cut.p0 → d ∣ unsigned_abs cut.beta → d ≡ 1
 
--- The cut of block b that the multipliers y of its inequalities make, with `raw` for the number of its eta: the y-sum of
--- what the inequalities say of the master and of their right sides, divided by the greatest common divisor.
+-- The cut of block b that the multipliers y of its inequalities make, with `raw` for the number of its eta: the y-sum
+-- of what the inequalities say of the master and of their right sides, divided by the greatest common divisor.
 pub record IsCutFrom (m : Model) (part : List ℕ) (b : ℕ) (y : ℕ → ℤ) (raw : ℤ) (cut : Cut) : Type 0 where
   pub block : cut.block ≡ b
   pub mu : AreEntries (length (inequalities_of m part b)) y cut.mu
@@ -38,8 +38,8 @@ pub record IsCutFrom (m : Model) (part : List ℕ) (b : ℕ) (y : ℕ → ℤ) (
   pub rhs : dot cut.mu (rhs_at (inequalities_of m part b)) ≡ cut.gcd *ℤ cut.beta
   pub lowest : IsLowestCut cut
 
--- What a separation's multipliers give the eta of its block: in mode Cost that of the row of the cost, which comes after
--- the inequalities, and nothing in mode Point.
+-- What a separation's multipliers give the eta of its block: in mode Cost that of the row of the cost, which comes
+-- after the inequalities, and nothing in mode Point.
 abbrev pub cost_multiplier : Mode → ℕ → (ℕ → ℤ) → ℤ
 cost_multiplier mode.Cost n y = y n
 cost_multiplier mode.Point n y = pos 0

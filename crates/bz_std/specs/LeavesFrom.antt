@@ -6,8 +6,8 @@ use Rattle.bz_std.specs.CutsFrom.{AreEntries}
 use Rattle.bz_std.specs.Meanings.{sum_right}
 use Rattle.bz_std.specs.Posed.{Posed}
 
--- The leaf has the multipliers y for its lambda, `by` for its delta, and for its bound what they make of the right sides,
--- with the other sign.
+-- The leaf has the multipliers y for its lambda, `by` for its delta, and for its bound what they make of the right
+-- sides, with the other sign.
 pub record IsLeafFrom (q : Posed) (y : ℕ → ℤ) (by : ℤ) (leaf : Leaf) : Type 0 where
   pub lambda : AreEntries (length q.rows) y leaf.lambda
   pub delta : leaf.delta ≡ by
