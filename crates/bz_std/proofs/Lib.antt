@@ -1,5 +1,15 @@
 pub mod Building
+pub mod ColumnSums
+pub mod Combined
+pub mod Crossing
+pub mod CutsMade
+pub mod Entries
+pub mod LeavesMade
+pub mod Lines
 pub mod Listed
+pub mod Moved
 pub mod OverColumns
+pub mod PosedTasks
 pub mod RightSides
+pub mod RowSums
 pub mod Widths

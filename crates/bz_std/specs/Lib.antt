@@ -1,3 +1,6 @@
+pub mod CutsFrom
+pub mod Laws
+pub mod LeavesFrom
 pub mod Meanings
 pub mod Posed
 pub mod Stops

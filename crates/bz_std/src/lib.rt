@@ -1,4 +1,4 @@
-//! The three programs of a split: of a node, of a separation and of a floor.
+//! The three programs of a split, of a node, of a separation and of a floor, and the laws of what their answers make.
 //!
 //! This crate solves none of them, and knows no search.
 #![tactic(auto)]
@@ -6,9 +6,14 @@
 mod columns;
 mod costs;
 mod floors;
+mod laws;
 mod separation;
 mod stops;
 
 pub use floors::floor_lp;
+pub use laws::{
+    answers_cross, made_cuts_are_valid, made_leaves_hold, points_are_decided, separations_cut_off,
+    tasks_are_posed,
+};
 pub use separation::separation_lp;
 pub use stops::BuildStop;
