@@ -9,6 +9,7 @@ pub mod Lines
 pub mod Listed
 pub mod Moved
 pub mod OverColumns
+pub mod PosedLps
 pub mod PosedTasks
 pub mod RightSides
 pub mod RowSums

@@ -1,5 +1,5 @@
 -- The numbers at indexes that rise, without zeros: a sparse row is the list of its own.
-use Rattle.std.proofs.Common.{◌≡◌, refl, sym, ◌∙◌, ap, subst, ℕ, zero, suc, ◌+◌, ◌<◌, ◌≤◌, List, [], ◌∷◌, ◌++◌, arith, ℤ, pos, negsuc, inl, inr, append-nil, append_assoc}
+use Rattle.std.proofs.Common.{◌≡◌, refl, sym, ◌∙◌, ap, subst, ℕ, zero, suc, ◌+◌, ◌<◌, ◌≤◌, List, [], ◌∷◌, ◌++◌, arith, ℤ, pos, negsuc, inl, inr, append-nil, append_assoc, add-one}
 use Rattle.std.proofs.lemmas.Bool.{cases_eq}
 use Rattle.std.specs.Int.RustNames.{unsigned_abs}
 use Rattle.bz_algebra.specs.Sums.{AllBelow, coef}
@@ -13,7 +13,7 @@ listed f zero = []
 listed f (suc n) = listed f n ++ entry_at n (f n)
 
 -- those at n indexes from low on
-listed_from : (ℕ → ℤ) → ℕ → ℕ → List (ℕ × ℤ)
+abbrev listed_from : (ℕ → ℤ) → ℕ → ℕ → List (ℕ × ℤ)
 listed_from f low zero = []
 listed_from f low (suc n) = entry_at low (f low) ++ listed_from f (suc low) n
 
@@ -47,31 +47,42 @@ none_from low (suc n) = none_from (suc low) n
 up_from : (low : ℕ) (e : ℕ × ℤ) (es : List (ℕ × ℤ)) → low < e.0 → IsSparseFrom low (e ∷ es) → IsSparseFrom (suc low) (e ∷ es)
 up_from low e es l h = (record { column = omega arith; some = h.0.some; narrow = h.0.narrow }, h.1)
 
+-- the first entry is at low
+entry_here : (low n : ℕ) (e : ℕ × ℤ) (es : List (ℕ × ℤ)) → e.0 ≡ low → IsSparseFrom low (e ∷ es) → listed_from (coef es) (suc low) n ≡ es → listed_from (coef (e ∷ es)) low (suc n) ≡ e ∷ es
+entry_here low n e es same h rest =
+    let at : coef (e ∷ es) low ≡ e.1 = subst (λ (k : ℕ). coef (e ∷ es) k ≡ e.1) same (coef-first low e es h) in
+    let later : listed_from (coef (e ∷ es)) (suc low) n ≡ es = agree (coef (e ∷ es)) (coef es) (suc low) n (λ j l. coef-rest j e es (λ k. absurd (omega arith))) ∙ rest in
+    rw (at, later, entry_some low e.1 h.0.some) (ap (λ (k : ℕ). (k, e.1) ∷ es) (sym same))
+
+-- it is after low
+entry_later : (low n : ℕ) (e : ℕ × ℤ) (es : List (ℕ × ℤ)) → low < e.0 → IsSparseFrom low (e ∷ es) → listed_from (coef (e ∷ es)) (suc low) n ≡ e ∷ es → listed_from (coef (e ∷ es)) low (suc n) ≡ e ∷ es
+entry_later low n e es above h rest =
+    let none : coef (e ∷ es) low ≡ pos 0 = coef-before (suc low) low (e ∷ es) (up_from low e es above h) (omega arith) in
+    rw none rest
+
 listed_from_all : (low n : ℕ) (es : List (ℕ × ℤ)) → IsSparseFrom low es → AllBelow (low + n) es → listed_from (coef es) low n ≡ es
 listed_from_all low n [] h b = none_from low n
 listed_from_all low zero (e ∷ es) h b =
     let least : low ≤ e.0 = h.0.column in
     let most : e.0 < low + 0 = b.0 in
     absurd (omega arith)
-listed_from_all low (suc n) (e ∷ es) h b = elim (cases_eq e.0 low) [ inl same ↦ here same | inr other ↦ later other (listed_from_all (suc low) n (e ∷ es)) ]
-  where
-    here : e.0 ≡ low → listed_from (coef (e ∷ es)) low (suc n) ≡ e ∷ es
-    here same =
-        let at : coef (e ∷ es) low ≡ e.1 = subst (λ (k : ℕ). coef (e ∷ es) k ≡ e.1) same (coef-first low e es h) in
-        let sparse : IsSparseFrom (suc low) es = subst (λ (k : ℕ). IsSparseFrom (suc k) es) same h.1 in
-        let below : AllBelow (suc low + n) es = subst (λ (k : ℕ). AllBelow k es) (omega arith) b.1 in
-        let rest : listed_from (coef (e ∷ es)) (suc low) n ≡ es = agree (coef (e ∷ es)) (coef es) (suc low) n (λ j l. coef-rest j e es (λ k. absurd (omega arith))) ∙ listed_from_all (suc low) n es sparse below in
-        rw (at, rest, entry_some low e.1 h.0.some) (ap (λ (k : ℕ). (k, e.1) ∷ es) (sym same))
+listed_from_all low (suc n) (e ∷ es) h b =
+    let least : low ≤ e.0 = h.0.column in
+    elim (cases_eq e.0 low) [
+      | inl same ↦
+          entry_here low n e es same h
+          (listed_from_all (suc low) n es (subst (λ (k : ℕ). IsSparseFrom (suc k) es) same h.1) (subst (λ (k : ℕ). AllBelow k es) (omega arith) b.1))
+      | inr other ↦
+          let above : low < e.0 = omega (arith, other) in
+          entry_later low n e es above h
+          (listed_from_all (suc low) n (e ∷ es) (up_from low e es above h) (subst (λ (k : ℕ). AllBelow k (e ∷ es)) (omega arith) b))
+    ]
 
-    later : (e.0 ≡ low → ⊥) → (IsSparseFrom (suc low) (e ∷ es) → AllBelow (suc low + n) (e ∷ es) → listed_from (coef (e ∷ es)) (suc low) n ≡ e ∷ es) → listed_from (coef (e ∷ es)) low (suc n) ≡ e ∷ es
-    later other more =
-        let least : low ≤ e.0 = h.0.column in
-        let above : low < e.0 = omega (arith, other) in
-        let sparse : IsSparseFrom (suc low) (e ∷ es) = up_from low e es above h in
-        let none : coef (e ∷ es) low ≡ pos 0 = coef-before (suc low) low (e ∷ es) sparse (omega arith) in
-        let below : AllBelow (suc low + n) (e ∷ es) = subst (λ (k : ℕ). AllBelow k (e ∷ es)) (omega arith) b in
-        rw none (more sparse below)
+pub listed_next : (f : ℕ → ℤ) (n : ℕ) → listed f (n + 1) ≡ listed f n ++ entry_at n (f n)
+listed_next f n = rw add-one refl
 
 -- a sparse row is the list of its numbers
 pub listed_all : (n : ℕ) (es : List (ℕ × ℤ)) → IsSparse es → AllBelow n es → listed (coef es) n ≡ es
-listed_all n es h b = from_start (coef es) n ∙ listed_from_all 0 n es h b
+listed_all n es h b =
+    let same : n ≡ 0 + n = omega arith in
+    from_start (coef es) n ∙ listed_from_all 0 n es h (subst (λ (k : ℕ). AllBelow k es) same b)

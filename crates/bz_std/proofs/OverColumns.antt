@@ -42,3 +42,7 @@ pub over_entry : (j : ℕ) (z : ℤ) → over_columns (entry_at j z) ≡ entry_a
 over_entry j (pos zero) = refl
 over_entry j (pos (suc k)) = refl
 over_entry j (negsuc k) = refl
+
+pub over_append : (es gs : List (ℕ × ℤ)) → over_columns (es ++ gs) ≡ over_columns es ++ over_columns gs
+over_append [] gs = refl
+over_append (e ∷ es) gs = ap (λ (ys : List (ℕ × ℤ)). (2 * e.0, e.1) ∷ (2 * e.0 + 1, neg_ℤ e.1) ∷ ys) (over_append es gs)

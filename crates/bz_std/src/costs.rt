@@ -20,6 +20,10 @@ pub(crate) fn cost_over_columns(
     ensures below { IfOk result (AllBelow (2 * width_of split.now.part part)) }
 {
     let mut row = SparseRow::from_vec(Vec::new(alloc));
+    // Without costs no position has to be looked up.
+    if split.model().cost.as_slice().is_empty() {
+        return Ok(row);
+    }
     for position in 0..split.width(part) {
         push_variable(&mut row, position, split.inner_cost(part, position))?;
     }

@@ -35,9 +35,11 @@ pub fn floor_lp(alloc: Global, split: &Split, block: u32) -> Result<Lp, OutOfMem
     ensures program { IfOk result (IsProgramOf (floor split.now.model split.now.part block)) }
     ensures is_lp { IfOk result IsLp }
 {
+    let rows = falling_rows(alloc, split.inequalities(block))?;
+    let cost = cost_over_columns(alloc, split, block)?;
     Ok(Lp {
         columns: 2 * split.width(block),
-        rows: Items::from_vec(falling_rows(alloc, split.inequalities(block))?),
-        cost: cost_over_columns(alloc, split, block)?,
+        rows: Items::from_vec(rows),
+        cost,
     })
 }

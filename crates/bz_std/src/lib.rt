@@ -7,6 +7,7 @@ mod columns;
 mod costs;
 mod floors;
 mod laws;
+mod nodes;
 mod separation;
 mod stops;
 

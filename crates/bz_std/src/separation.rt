@@ -10,7 +10,7 @@ ghost use Rattle.bz_model.specs.Parting.{blocks_of, inequalities_of, width_of};
 ghost use Rattle.bz_tableau.specs.Programs.{IsLp};
 ghost use Rattle.bz_std.specs.Posed.{line_of, line_over_columns};
 ghost use Rattle.bz_std.specs.Stops.{StopsAtRow, StopsBuilding};
-ghost use Rattle.bz_std.specs.Tasks.{IsMasterOf, IsSeparationLp, cost_line, own_line, right_pairs};
+ghost use Rattle.bz_std.specs.Tasks.{IsMasterOf, IsSeparationLp, cost_line, cost_lines, own_line, right_pairs};
 
 use crate::columns::{push_row, row_over_columns};
 use crate::costs::cost_over_columns;
@@ -100,6 +100,29 @@ fn cost_row(alloc: Global, split: &Split, block: u32, point: &Master) -> Result<
     Ok(LpRow { terms, rhs })
 }
 
+/// Adds the row that holds a block's cost to its eta, in mode Cost.
+fn push_cost_row(
+    alloc: Global,
+    split: &Split,
+    block: u32,
+    point: &Master,
+    mode: Mode,
+    rows: &mut Vec<LpRow>,
+) -> Result<(), OutOfMemory>
+    requires first { 0 < block }
+    requires last { block ≤ blocks_of split.now.part }
+    requires eta { length point.now.eta ≡ blocks_of split.now.part }
+    ensures { OnOk result (map line_of rows.new.items ≡ map line_of rows.old.items ++ map line_over_columns (cost_lines split.now.model split.now.part point.now block mode)) }
+{
+    match mode {
+        Mode::Cost => {
+            let row = cost_row(alloc, split, block, point)?;
+            push_row(rows, row)
+        },
+        Mode::Point => Ok(()),
+    }
+}
+
 /// The separation program of a block at the master's point. Where the sum of a right side is wide there is none: the
 /// stop names the first such inequality.
 pub fn separation_lp(
@@ -117,10 +140,7 @@ pub fn separation_lp(
     ensures stop { IfErr result (StopsBuilding point.now (inequalities_of split.now.model split.now.part block)) }
 {
     let mut rows = own_rows(alloc, point, split.inequalities(block))?;
-    if mode == Mode::Cost {
-        let row = cost_row(alloc, split, block, point)?;
-        push_row(&mut rows, row)?;
-    }
+    push_cost_row(alloc, split, block, point, mode, &mut rows)?;
     Ok(Lp {
         columns: 2 * split.width(block),
         rows: Items::from_vec(rows),
