@@ -8,6 +8,7 @@ pub mod LeavesMade
 pub mod Lines
 pub mod Listed
 pub mod Moved
+pub mod NodeRows
 pub mod OverColumns
 pub mod PosedLps
 pub mod PosedTasks

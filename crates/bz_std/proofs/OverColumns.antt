@@ -1,11 +1,14 @@
 -- Rows over two columns for each variable.
-use Rattle.std.proofs.Common.{◌≡◌, refl, sym, ◌∙◌, ap, ℕ, zero, suc, ◌+◌, ◌*◌, ◌<◌, ◌≤◌, List, [], ◌∷◌, ◌++◌, length, drop, get_or, arith, ℤ, pos, negsuc, neg_ℤ, append_assoc, subst}
+use Rattle.std.proofs.Common.{◌≡◌, refl, sym, ◌∙◌, ap, ℕ, zero, suc, ◌+◌, ◌*◌, ◌<◌, ◌≤◌, List, [], ◌∷◌, ◌++◌, length, drop, get_or, arith, ℤ, pos, negsuc, neg_ℤ, ◌-◌, append_assoc, append-nil, subst}
 use Rattle.std.proofs.lemmas.Int.{ints}
 use Rattle.std.specs.Int.RustNames.{unsigned_abs}
 use Rattle.bz_algebra.specs.Sums.{AllBelow}
 use Rattle.bz_num.specs.Row.{IsEntryFrom, IsSparse, IsSparseFrom, entry_at}
 use Rattle.bz_model.proofs.Sparse.{left_at, size_neg}
-use Rattle.bz_std.specs.Posed.{over_columns}
+use Rattle.bz_cut.specs.declared.Cut.{Cut}
+use Rattle.bz_tree.specs.Leaves.{side_of_cut}
+use Rattle.bz_std.specs.Posed.{Line, line_over_columns, over_columns}
+use Rattle.bz_std.specs.Tasks.{side_line}
 
 -- the columns of a sparse row rise
 over_sparse_from : (low : ℕ) (es : List (ℕ × ℤ)) → IsSparseFrom low es → IsSparseFrom (2 * low) (over_columns es)
@@ -46,3 +49,13 @@ over_entry j (negsuc k) = refl
 pub over_append : (es gs : List (ℕ × ℤ)) → over_columns (es ++ gs) ≡ over_columns es ++ over_columns gs
 over_append [] gs = refl
 over_append (e ∷ es) gs = ap (λ (ys : List (ℕ × ℤ)). (2 * e.0, e.1) ∷ (2 * e.0 + 1, neg_ℤ e.1) ∷ ys) (over_append es gs)
+
+-- the row of a cut
+pub cut_is : (n : ℕ) (cut : Cut) (terms row : List (ℕ × ℤ)) (line : Line) → line.terms ≡ row → line.rhs ≡ cut.beta → terms ≡ over_columns cut.alpha → row ≡ terms ++ over_columns (entry_at (n + (cut.block - 1)) (neg_ℤ cut.p0)) → line ≡ line_over_columns (side_line n (side_of_cut cut))
+cut_is n cut terms row line a b made pushed =
+    let whole : row ≡ over_columns (cut.alpha ++ (entry_at (n + (cut.block - 1)) (neg_ℤ cut.p0) ++ [])) =
+    pushed
+    ∙ ap (λ (ts : List (ℕ × ℤ)). ts ++ over_columns (entry_at (n + (cut.block - 1)) (neg_ℤ cut.p0))) made
+    ∙ sym (over_append cut.alpha (entry_at (n + (cut.block - 1)) (neg_ℤ cut.p0)))
+    ∙ ap (λ (ts : List (ℕ × ℤ)). over_columns (cut.alpha ++ ts)) (sym (append-nil (entry_at (n + (cut.block - 1)) (neg_ℤ cut.p0)))) in
+    λ k. record { terms = (a ∙ whole) k; rhs = b k }

@@ -13,11 +13,7 @@ use bz_tableau::LpRow;
 use std::alloc::{AllocError, Global};
 
 /// Adds the two columns of a variable with this number.
-fn push_pair(
-    entries: &mut Vec<(u32, i128)>,
-    variable: u32,
-    number: i128,
-) -> Result<(), AllocError>
+fn push_pair(entries: &mut Vec<(u32, i128)>, variable: u32, number: i128) -> Result<(), AllocError>
     requires few { variable < list_limit }
     requires narrow { IsNarrow number }
     ensures { OnOk result (entries.new.items ≡ entries.old.items ++ (2 * variable, number) ∷ (2 * variable + 1, neg_ℤ number) ∷ []) }

@@ -16,5 +16,6 @@ pub use laws::{
     answers_cross, made_cuts_are_valid, made_leaves_hold, points_are_decided, separations_cut_off,
     tasks_are_posed,
 };
+pub use nodes::node_lp;
 pub use separation::separation_lp;
 pub use stops::BuildStop;

@@ -50,12 +50,7 @@ fn right_side(point: &Master, ineq: &Ineq) -> Result<i128, WideSum>
 }
 
 /// The row of an inequality, which is the one of this number.
-fn own_row(
-    alloc: Global,
-    point: &Master,
-    ineq: &Ineq,
-    number: u32,
-) -> Result<LpRow, BuildStop>
+fn own_row(alloc: Global, point: &Master, ineq: &Ineq, number: u32) -> Result<LpRow, BuildStop>
     requires own { AllBelow list_limit ineq.now.own }
     requires master { AllBelow (length point.now.x) ineq.now.master }
     ensures row { IfOk result (λ row. line_of row ≡ line_over_columns (own_line point.now ineq.now)) }
