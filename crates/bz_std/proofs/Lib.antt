@@ -4,6 +4,7 @@ pub mod Combined
 pub mod Crossing
 pub mod CutsMade
 pub mod Entries
+pub mod FloorEnds
 pub mod LeavesMade
 pub mod Lines
 pub mod Listed

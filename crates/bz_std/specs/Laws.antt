@@ -1,5 +1,5 @@
 -- What is proved of programs over variables of either sign and of the programs over columns that stand for them.
-use Rattle.std.specs.Prelude.{ℕ, ◌*◌, ◌<◌, ◌≤◌, ◌≡◌, ℤ, pos, ◌*ℤ◌, ◌≤ℤ◌, ◌<ℤ◌, true, false, List, length}
+use Rattle.std.specs.Prelude.{ℕ, ◌*◌, ◌<◌, ◌≤◌, ◌≡◌, ℤ, pos, ◌*ℤ◌, ◌≤ℤ◌, ◌<ℤ◌, ◌⊎◌, true, false, List, length}
 use Rattle.std.specs.List.{AllByRecursion}
 use Rattle.bz_algebra.specs.Sums.{dot}
 use Rattle.bz_model.specs.declared.Master.{Master}
@@ -20,6 +20,7 @@ use Rattle.bz_tableau.specs.Programs.{program_of}
 use Rattle.bz_tableau.specs.declared.answers.Vals.{Vals}
 use Rattle.bz_tableau.specs.declared.programs.Lp.{Lp}
 use Rattle.bz_std.specs.CutsFrom.{BalancesCost, IsCutFrom, IsNoCut, IsSeparationCut, cost_multiplier}
+use Rattle.bz_std.specs.Floored.{CostFalls, CostIsBalanced}
 use Rattle.bz_std.specs.LeavesFrom.{IsLeafFrom}
 use Rattle.bz_std.specs.Meanings.{differences, IsEmptyBy, IsFallAlong, IsLeastAt, IsLeastRise, IsPossible, MeetsWithin}
 use Rattle.bz_std.specs.Posed.{IsPosed, IsProgramOf, Posed}
@@ -105,3 +106,12 @@ pub record TasksArePosed : Type 0 where
   pub of_floor : (m : Model) (part : List ℕ) (b : ℕ) → IsDecomposed m part → IsPosed (floor m part b)
   pub of_node : (m : Model) (part : List ℕ) (box : Box) (cuts : List Cut) (way : Mode) → IsDecomposed m part →
       AllByRecursion (IsCutOfSplit part) cuts → IsPosed (node m part box cuts way)
+
+-- Of each block exactly one of the two exists: a direction along which its cost falls and none of its inequalities
+-- rises, or multipliers that balance the cost. And a floor's program always has a point.
+pub record FloorsHaveOneEnd : Type 0 where
+  pub either : (m : Model) (part : List ℕ) (b : ℕ) → IsDecomposed m part →
+      CostFalls m part b ⊎ CostIsBalanced m part b
+  pub not_both : (m : Model) (part : List ℕ) (b : ℕ) → IsDecomposed m part →
+      CostFalls m part b → ¬ CostIsBalanced m part b
+  pub never_empty : (m : Model) (part : List ℕ) (b : ℕ) (y : ℕ → ℤ) → ¬ IsEmptyBy (floor m part b) y

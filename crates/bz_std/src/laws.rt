@@ -1,5 +1,5 @@
 //! What is proved of the programs of a split.
-ghost use Rattle.bz_std.specs.Laws.{AnswersCross, CutsAreValid, LeavesAreRight, PointsAreDecided, SeparationsCutOff, TasksArePosed};
+ghost use Rattle.bz_std.specs.Laws.{AnswersCross, CutsAreValid, FloorsHaveOneEnd, LeavesAreRight, PointsAreDecided, SeparationsCutOff, TasksArePosed};
 
 /// What an answer says of the columns of a program, it says of the variables that they stand for.
 pub fn answers_cross()
@@ -30,4 +30,10 @@ pub fn made_leaves_hold()
 /// The rows and the cost of each of the three programs speak of its variables.
 pub fn tasks_are_posed()
     ensures { TasksArePosed }
+{}
+
+/// A block's cost falls along a direction that no inequality forbids, or multipliers of its inequalities balance it, and
+/// never both. No multipliers show that a floor's program has no point.
+pub fn floors_have_one_end()
+    ensures { FloorsHaveOneEnd }
 {}
