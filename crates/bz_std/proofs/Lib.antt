@@ -9,6 +9,7 @@ pub mod LeavesMade
 pub mod Lines
 pub mod Listed
 pub mod Moved
+pub mod NodeFloors
 pub mod OverColumns
 pub mod PosedTasks
 pub mod RightSides

@@ -20,7 +20,7 @@ use Rattle.bz_tableau.specs.Programs.{program_of}
 use Rattle.bz_tableau.specs.declared.answers.Vals.{Vals}
 use Rattle.bz_tableau.specs.declared.programs.Lp.{Lp}
 use Rattle.bz_std.specs.CutsFrom.{BalancesCost, IsCutFrom, IsNoCut, IsSeparationCut, cost_multiplier}
-use Rattle.bz_std.specs.Floored.{CostFalls, CostIsBalanced}
+use Rattle.bz_std.specs.Floored.{AreFloored, CostFalls, CostIsBalanced}
 use Rattle.bz_std.specs.LeavesFrom.{IsLeafFrom}
 use Rattle.bz_std.specs.Meanings.{differences, IsEmptyBy, IsFallAlong, IsLeastAt, IsLeastRise, IsPossible, MeetsWithin}
 use Rattle.bz_std.specs.Posed.{IsPosed, IsProgramOf, Posed}
@@ -115,3 +115,12 @@ pub record FloorsHaveOneEnd : Type 0 where
   pub not_both : (m : Model) (part : List ℕ) (b : ℕ) → IsDecomposed m part →
       CostFalls m part b → ¬ CostIsBalanced m part b
   pub never_empty : (m : Model) (part : List ℕ) (b : ℕ) (y : ℕ → ℤ) → ¬ IsEmptyBy (floor m part b) y
+
+-- A node's cost falls along no direction: its columns are bounded, as the partition is strict, and each eta has a floor
+-- among the cuts. In mode Point there is no cost.
+pub record NodesNeverFall : Type 0 where
+  pub cost : (m : Model) (part : List ℕ) (box : Box) (cuts : List Cut) (d : ℕ → ℤ) →
+      IsDecomposed m part → AllByRecursion (IsCutOfSplit part) cuts → AreFloored (blocks_of part) cuts →
+      ¬ IsFallAlong (node m part box cuts mode.Cost) d
+  pub point : (m : Model) (part : List ℕ) (box : Box) (cuts : List Cut) (d : ℕ → ℤ) →
+      ¬ IsFallAlong (node m part box cuts mode.Point) d

@@ -1,5 +1,5 @@
 //! What is proved of the programs of a split.
-ghost use Rattle.bz_std.specs.Laws.{AnswersCross, CutsAreValid, FloorsHaveOneEnd, LeavesAreRight, PointsAreDecided, SeparationsCutOff, TasksArePosed};
+ghost use Rattle.bz_std.specs.Laws.{AnswersCross, CutsAreValid, FloorsHaveOneEnd, LeavesAreRight, NodesNeverFall, PointsAreDecided, SeparationsCutOff, TasksArePosed};
 
 /// What an answer says of the columns of a program, it says of the variables that they stand for.
 pub fn answers_cross()
@@ -36,4 +36,9 @@ pub fn tasks_are_posed()
 /// never both. No multipliers show that a floor's program has no point.
 pub fn floors_have_one_end()
     ensures { FloorsHaveOneEnd }
+{}
+
+/// Where each block has a floor among the cuts, a node's cost falls along no direction.
+pub fn nodes_never_fall()
+    ensures { NodesNeverFall }
 {}
