@@ -3,6 +3,7 @@ pub mod ColumnSums
 pub mod Combined
 pub mod Crossing
 pub mod CutsMade
+pub mod CutsOfBases
 pub mod Entries
 pub mod FloorEnds
 pub mod LeavesMade
@@ -14,4 +15,5 @@ pub mod OverColumns
 pub mod PosedTasks
 pub mod RightSides
 pub mod RowSums
+pub mod SparseLists
 pub mod Widths

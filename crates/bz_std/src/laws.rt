@@ -1,5 +1,5 @@
 //! What is proved of the programs of a split.
-ghost use Rattle.bz_std.specs.Laws.{AnswersCross, CutsAreValid, FloorsHaveOneEnd, LeavesAreRight, NodesNeverFall, PointsAreDecided, SeparationsCutOff, TasksArePosed};
+ghost use Rattle.bz_std.specs.Laws.{AnswersCross, CutsAreOfBases, CutsAreValid, FloorsHaveOneEnd, LeavesAreRight, NodesNeverFall, PointsAreDecided, SeparationsCutOff, TasksArePosed};
 
 /// What an answer says of the columns of a program, it says of the variables that they stand for.
 pub fn answers_cross()
@@ -41,4 +41,9 @@ pub fn floors_have_one_end()
 /// Where each block has a floor among the cuts, a node's cost falls along no direction.
 pub fn nodes_never_fall()
     ensures { NodesNeverFall }
+{}
+
+/// The cut that an answer of a separation names is that of its basis, which has one at most, whatever the point.
+pub fn cuts_are_of_bases()
+    ensures { CutsAreOfBases }
 {}
