@@ -1,7 +1,8 @@
 -- What is proved of programs over variables of either sign and of the programs over columns that stand for them.
-use Rattle.std.specs.Prelude.{ℕ, ◌*◌, ◌<◌, ◌≤◌, ◌≡◌, ℤ, pos, ◌*ℤ◌, ◌≤ℤ◌, ◌<ℤ◌, true, false, List, length}
+use Rattle.std.specs.Prelude.{ℕ, ◌*◌, ◌<◌, ◌≤◌, ◌≡◌, ℤ, pos, ◌*ℤ◌, ◌≤ℤ◌, ◌<ℤ◌, ◌⊎◌, true, false, List, length}
 use Rattle.std.specs.List.{AllByRecursion}
 use Rattle.bz_algebra.specs.Sums.{dot}
+use Rattle.bz_algebra.specs.Tableaus.{AreAlike}
 use Rattle.bz_model.specs.declared.Master.{Master}
 use Rattle.bz_model.specs.declared.Model.{Model}
 use Rattle.bz_model.specs.Decomposed.{IsDecomposed}
@@ -10,20 +11,23 @@ use Rattle.bz_cut.specs.declared.Cut.{Cut}
 use Rattle.bz_cut.specs.declared.Mode.{Mode}
 use Rattle.bz_cut.specs.declared.Mode.TheVariants as mode
 use Rattle.bz_cut.specs.Cuts.{IsValid}
-use Rattle.bz_cut.specs.Points.{CutsOff}
+use Rattle.bz_cut.specs.Points.{AreSame, CutsOff}
 use Rattle.bz_tree.specs.declared.Leaf.{Leaf}
 use Rattle.bz_tree.specs.Boxes.{Box}
 use Rattle.bz_tree.specs.Leaves.{LeafHolds}
 use Rattle.bz_tableau.specs.Answers.{IsEmpty, IsLeast, IsRay}
 use Rattle.bz_tableau.specs.Dense.{entry}
+use Rattle.bz_tableau.specs.Laws.{place}
 use Rattle.bz_tableau.specs.Programs.{program_of}
 use Rattle.bz_tableau.specs.declared.answers.Vals.{Vals}
 use Rattle.bz_tableau.specs.declared.programs.Lp.{Lp}
 use Rattle.bz_std.specs.CutsFrom.{BalancesCost, IsCutFrom, IsNoCut, IsSeparationCut, cost_multiplier}
+use Rattle.bz_std.specs.CutsOfBases.{CutOf}
+use Rattle.bz_std.specs.Floored.{AreFloored, CostFalls, CostIsBalanced}
 use Rattle.bz_std.specs.LeavesFrom.{IsLeafFrom}
 use Rattle.bz_std.specs.Meanings.{differences, IsEmptyBy, IsFallAlong, IsLeastAt, IsLeastRise, IsPossible, MeetsWithin}
 use Rattle.bz_std.specs.Posed.{IsPosed, IsProgramOf, Posed}
-use Rattle.bz_std.specs.Tasks.{IsCutOfSplit, floor, node, node_cost, separation}
+use Rattle.bz_std.specs.Tasks.{IsCutOfSplit, IsSeparationLp, floor, node, node_cost, separation}
 
 -- Each answer over the columns is one over the variables that they stand for. The least s of the relaxed program is the
 -- number of its last column.
@@ -105,3 +109,36 @@ pub record TasksArePosed : Type 0 where
   pub of_floor : (m : Model) (part : List ℕ) (b : ℕ) → IsDecomposed m part → IsPosed (floor m part b)
   pub of_node : (m : Model) (part : List ℕ) (box : Box) (cuts : List Cut) (way : Mode) → IsDecomposed m part →
       AllByRecursion (IsCutOfSplit part) cuts → IsPosed (node m part box cuts way)
+
+-- Of each block exactly one of the two exists: a direction along which its cost falls and none of its inequalities
+-- rises, or multipliers that balance the cost. And a floor's program always has a point.
+pub record FloorsHaveOneEnd : Type 0 where
+  pub either : (m : Model) (part : List ℕ) (b : ℕ) → IsDecomposed m part →
+      CostFalls m part b ⊎ CostIsBalanced m part b
+  pub not_both : (m : Model) (part : List ℕ) (b : ℕ) → IsDecomposed m part →
+      CostFalls m part b → ¬ CostIsBalanced m part b
+  pub never_empty : (m : Model) (part : List ℕ) (b : ℕ) (y : ℕ → ℤ) → ¬ IsEmptyBy (floor m part b) y
+
+-- A node's cost falls along no direction: its columns are bounded, as the partition is strict, and each eta has a floor
+-- among the cuts. In mode Point there is no cost.
+pub record NodesNeverFall : Type 0 where
+  pub cost : (m : Model) (part : List ℕ) (box : Box) (cuts : List Cut) (d : ℕ → ℤ) →
+      IsDecomposed m part → AllByRecursion (IsCutOfSplit part) cuts → AreFloored (blocks_of part) cuts →
+      ¬ IsFallAlong (node m part box cuts mode.Cost) d
+  pub point : (m : Model) (part : List ℕ) (box : Box) (cuts : List Cut) (d : ℕ → ℤ) →
+      ¬ IsFallAlong (node m part box cuts mode.Point) d
+
+-- The cut that an answer of a separation names is that of its basis, and a basis has one cut at most, as have the bases
+-- with the same columns, in whatever order: not only do such cuts say the same, they come from the same multipliers.
+pub record CutsAreOfBases : Type 0 where
+  pub of_answer : (m : Model) (part : List ℕ) (point : Master) (b : ℕ) (way : Mode)
+      (lp : Lp) (basis : List ℕ) (z y : Vals) (cut : Cut) → IsSeparationLp m part point b way lp →
+      IsLeast true (program_of lp) basis z y → IsSeparationCut m part b way (entry y.num) cut →
+      CutOf m part way b basis cut
+  pub one : (m : Model) (part : List ℕ) (b : ℕ) (way : Mode) (basis : List ℕ) (cut copy : Cut) →
+      CutOf m part way b basis cut → CutOf m part way b basis copy →
+      AreSame cut copy × (cut.mu ≡ copy.mu) × (cut.gcd ≡ copy.gcd)
+  pub of_columns : (m : Model) (part : List ℕ) (b : ℕ) (way : Mode) (basis others : List ℕ) (cut copy : Cut) →
+      AreAlike (length basis) (place basis) (place others) →
+      CutOf m part way b basis cut → CutOf m part way b others copy →
+      AreSame cut copy × (cut.mu ≡ copy.mu) × (cut.gcd ≡ copy.gcd)

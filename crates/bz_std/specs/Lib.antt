@@ -1,4 +1,6 @@
 pub mod CutsFrom
+pub mod CutsOfBases
+pub mod Floored
 pub mod Laws
 pub mod LeavesFrom
 pub mod Meanings

@@ -1,5 +1,5 @@
 //! What is proved of the programs of a split.
-ghost use Rattle.bz_std.specs.Laws.{AnswersCross, CutsAreValid, LeavesAreRight, PointsAreDecided, SeparationsCutOff, TasksArePosed};
+ghost use Rattle.bz_std.specs.Laws.{AnswersCross, CutsAreOfBases, CutsAreValid, FloorsHaveOneEnd, LeavesAreRight, NodesNeverFall, PointsAreDecided, SeparationsCutOff, TasksArePosed};
 
 /// What an answer says of the columns of a program, it says of the variables that they stand for.
 pub fn answers_cross()
@@ -30,4 +30,20 @@ pub fn made_leaves_hold()
 /// The rows and the cost of each of the three programs speak of its variables.
 pub fn tasks_are_posed()
     ensures { TasksArePosed }
+{}
+
+/// A block's cost falls along a direction that no inequality forbids, or multipliers of its inequalities balance it, and
+/// never both. No multipliers show that a floor's program has no point.
+pub fn floors_have_one_end()
+    ensures { FloorsHaveOneEnd }
+{}
+
+/// Where each block has a floor among the cuts, a node's cost falls along no direction.
+pub fn nodes_never_fall()
+    ensures { NodesNeverFall }
+{}
+
+/// The cut that an answer of a separation names is that of its basis, which has one at most, whatever the point.
+pub fn cuts_are_of_bases()
+    ensures { CutsAreOfBases }
 {}
