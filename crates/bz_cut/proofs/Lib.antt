@@ -1,5 +1,6 @@
 pub mod CutDecided
 pub mod CutTold
+pub mod CuttingSums
 pub mod Steps
 pub mod SumTests
 pub mod WorkedSplits

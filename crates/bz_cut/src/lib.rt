@@ -8,6 +8,8 @@ mod faults;
 mod judging;
 mod laws;
 mod lists;
+mod mode;
+mod points;
 mod records;
 mod sharing;
 mod sums;
@@ -19,6 +21,8 @@ pub use judging::{
 };
 pub use laws::{cut_faults_are_unique, cut_tests_tell};
 pub use lists::{all_below, are_multipliers};
+pub use mode::Mode;
+pub use points::{cuts_off, same};
 pub use records::Cut;
 pub use sums::{Terms, column_sum, rhs_sum};
 

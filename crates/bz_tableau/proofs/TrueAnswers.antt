@@ -47,7 +47,7 @@ module _ (relaxed : Bool) (p : Program) (d : ℤ) (y : ℕ → ℤ) (bounds : Ar
       together = subst (λ (z : ℤ). (pos 0) ≤ℤ z) split (sum_nonnegative few.slack _ (λ j b. mul_nonnegative _ (x j) (bounds.columns j b) (m.nonnegative j b)))
 
 -- a z / den whose cost is the multipliers' costs no more than x / q
-at_most : (cost other d right den q : ℤ) → (pos 0) <ℤ d → (pos 0) <ℤ den → cost *ℤ d ≡ neg_ℤ right *ℤ den → (pos 0) ≤ℤ ((d *ℤ other) +ℤ (right *ℤ q)) → (cost *ℤ q) ≤ℤ (other *ℤ den)
+pub at_most : (cost other d right den q : ℤ) → (pos 0) <ℤ d → (pos 0) <ℤ den → cost *ℤ d ≡ neg_ℤ right *ℤ den → (pos 0) ≤ℤ ((d *ℤ other) +ℤ (right *ℤ q)) → (cost *ℤ q) ≤ℤ (other *ℤ den)
 at_most cost other d right den q h k same bound = cancel_le_left d (cost *ℤ q) (other *ℤ den) h
     (subst (λ (z : ℤ). z ≤ℤ (d *ℤ (other *ℤ den))) (sym left)
     (subst (λ (z : ℤ). (neg_ℤ (right *ℤ q) *ℤ den) ≤ℤ z) (*ℤ_assoc d other den)
@@ -64,7 +64,7 @@ least_is_least relaxed p basis z y a = record {
 }
 
 -- the cost of a relaxed program's point is its s
-cost_is_s : (p : Program) (x : ℕ → ℤ) → cost_at true p x ≡ x p.columns
+pub cost_is_s : (p : Program) (x : ℕ → ℤ) → cost_at true p x ≡ x p.columns
 cost_is_s p x = upto_only (suc p.columns) p.columns (λ j. objective_entry true p j *ℤ x j) (omega arith)
     (λ j b n. rw (ne_eqb j p.columns n) (zero_mul (x j)))
     ∙ rw (eq-eqb p.columns p.columns refl) (one_mul (x p.columns))

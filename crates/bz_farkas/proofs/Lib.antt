@@ -1,0 +1,4 @@
+pub mod Farkas
+pub mod PrimitiveFalls
+pub mod SparseFarkas
+mod Worked

@@ -1,0 +1,10 @@
+pub mod CutsFrom
+pub mod CutsOfBases
+pub mod Floored
+pub mod Laws
+pub mod LeavesFrom
+pub mod Meanings
+pub mod NodeLines
+pub mod Posed
+pub mod Stops
+pub mod Tasks

@@ -1,0 +1,30 @@
+-- The rows of a node's program, by where they come from.
+use Rattle.std.specs.Prelude.{ℕ, ℤ, pos, negsuc, List, [], ◌∷◌, map}
+use Rattle.std.specs.List.{enumerate_from, flat_map}
+use Rattle.std.proofs.Math.IntN.{neg_ℤ}
+use Rattle.bz_model.specs.declared.Ineq.{Ineq}
+use Rattle.bz_cut.specs.declared.Cut.{Cut}
+use Rattle.bz_tree.specs.Boxes.{Box}
+use Rattle.bz_tree.specs.Leaves.{side_of_cut, side_of_master}
+use Rattle.bz_tree.specs.LeafSides.{sides_at}
+use Rattle.bz_std.specs.Posed.{Line}
+use Rattle.bz_std.specs.Tasks.{side_line}
+
+-- those of the master's inequalities, over n positions
+abbrev pub master_lines : ℕ → List Ineq → List Line
+master_lines n is = map (side_line n) (map side_of_master is)
+
+-- the upper and the lower end of the integer column at a position
+abbrev pub end_lines : ℕ → ℤ → ℤ → List Line
+end_lines position lower upper =
+    record { terms = (position, pos 1) ∷ []; rhs = upper }
+    ∷ record { terms = (position, negsuc 0) ∷ []; rhs = neg_ℤ lower }
+    ∷ []
+
+-- those of the box
+abbrev pub box_lines : ℕ → List ℕ → Box → List Line
+box_lines n positions box = map (side_line n) (flat_map (sides_at box) (enumerate_from 0 positions))
+
+-- those of the cuts
+abbrev pub cut_lines : ℕ → List Cut → List Line
+cut_lines n cuts = map (side_line n) (map side_of_cut cuts)
