@@ -84,7 +84,7 @@ pub fn do_alone<D: Desk, O: Sink>(alloc: Global, job: &Job, desk: &mut D, out: &
     ensures refused { IsRefused result → RefusesJob (D.told desk.old) job.now result (O.taken out.old) (O.taken out.new) }
     ensures written { result ≡ Status.Write
         → BreaksOff (D.told desk.old) job.now (O.taken out.old) (O.taken out.new)
-            (D.faults desk.old) (D.faults desk.new) }
+        (D.faults desk.old) (D.faults desk.new) }
 
     // The status that the desk settles comes, unless a write failed or there is no memory: so that of a file that can't be
     // read comes exactly where its load fails.
@@ -127,7 +127,7 @@ pub fn run<D: Desk, O: Sink>(alloc: Global, words: &[String], desk: &mut D, out:
     ensures refused { IsRefused result → RefusesAsked (map string_bytes words.now) (D.told desk.old) result (O.taken out.old) (O.taken out.new) }
     ensures written { result ≡ Status.Write →
         BreaksOffAsked (map string_bytes words.now) (D.told desk.old) (O.taken out.old) (O.taken out.new)
-            (D.faults desk.old) (D.faults desk.new)
+        (D.faults desk.old) (D.faults desk.new)
         ⊎ BreaksOffUsage (map string_bytes words.now) (O.taken out.old) (O.taken out.new) }
 
     // The status that the desk settles comes, unless a write failed or there is no memory: so that of a file that can't be
