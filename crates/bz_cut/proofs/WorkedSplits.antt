@@ -7,7 +7,6 @@ use Rattle.bz_algebra.specs.Sums.{AllBelow}
 use Rattle.bz_model.specs.declared.Column.{Column}
 use Rattle.bz_model.specs.declared.Model.{Model}
 use Rattle.bz_model.specs.declared.Row.{Row}
-use Rattle.bz_model.specs.Limits.{IsWithinLimits}
 use Rattle.bz_model.specs.Parting.{part_of}
 use Rattle.bz_model.specs.Strict.{HasItsColumns, IsInOneBlock, IsPartition, IsStrict, IsStrictColumn}
 use Rattle.bz_model.specs.Worked.{AreWorkedColumns}
@@ -19,7 +18,7 @@ use Rattle.bz_cut.specs.Worked.{AreLinked}
 abbrev pub linked_part : List ℕ
 linked_part = 0 ∷ 1 ∷ []
 
-one_row : (a : ℤ) (rows : List Row) → AreLinked a rows → length rows ≡ 1
+pub one_row : (a : ℤ) (rows : List Row) → AreLinked a rows → length rows ≡ 1
 one_row a [] h = absurd h
 one_row a (row ∷ []) h = refl
 one_row a (row ∷ next ∷ rest) h = absurd h
@@ -63,6 +62,3 @@ linked_strict a m k r = let n = two_columns m.columns k in let o = one_row a m.r
   columns = columns_strict m.columns k;
   small = λ b l. omega (arith, n, o, size_within m linked_part b);
 }
-
-pub linked_limits : (a : ℤ) (m : Model) → AreWorkedColumns m.columns → AreLinked a m.rows → IsWithinLimits m
-linked_limits a m c r = let n = two_columns m.columns c in let k = one_row a m.rows r in record { columns = rw n (omega arith); rows = rw k (omega arith) }

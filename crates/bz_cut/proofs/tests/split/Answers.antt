@@ -1,4 +1,4 @@
-use Rattle.bz_cut.proofs.WorkedSplits.{linked_indexes, linked_limits, linked_partition, linked_strict}
+use Rattle.bz_cut.proofs.WorkedSplits.{linked_indexes, linked_partition, linked_strict}
 use Rattle.bz_cut.proofs.tests.split.Goals as goal
 
 pub new-requires-clause-indexes : goal.new-requires-clause-indexes
@@ -9,6 +9,3 @@ new-requires-clause-partition c = rw (c.from_vec-part.ensures, c.in_ok-from_slic
 
 pub new-requires-clause-strict : goal.new-requires-clause-strict
 new-requires-clause-strict c = rw (c.from_vec-part.ensures, c.in_ok-from_slice.ensures.items) (linked_strict _ c.in_ok-model.model c.in_ok-model.ensures.columns c.in_ok-model.ensures.rows)
-
-pub new-requires-clause-limits : goal.new-requires-clause-limits
-new-requires-clause-limits c = linked_limits _ c.in_ok-model.model c.in_ok-model.ensures.columns c.in_ok-model.ensures.rows
