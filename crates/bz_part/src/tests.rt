@@ -1,5 +1,5 @@
 //! Worked texts of partitions: minimise x + 2 y with x + y >= 1, x an integer from 0 to 1, and y at least 0.
-ghost use Rattle.std.specs.Prelude.{◌<◌};
+ghost use Rattle.std.specs.Prelude.{◌≡◌, ◌<◌, IfOk, length};
 ghost use Rattle.std.specs.Int.RustNames.{unsigned_abs};
 ghost use Rattle.bz_algebra.specs.Numbers.{IsNarrow};
 
@@ -10,7 +10,9 @@ use bz_num::{Frac, Items, Name, SparseRow};
 use std::alloc::{AllocError, Global};
 use std::test::Fail;
 
-fn columns(alloc: Global) -> Result<Items<Column>, AllocError> {
+fn columns(alloc: Global) -> Result<Items<Column>, AllocError>
+    ensures { IfOk result (λ columns. length columns ≡ 2) }
+{
     let x = Column {
         name: Name::from_vec(Vec::from_slice(alloc, b"x")?),
         integer: true,
@@ -39,7 +41,9 @@ fn pairs(alloc: Global, first: i128, second: i128) -> Result<SparseRow, AllocErr
     Ok(SparseRow::from_vec(pairs))
 }
 
-fn rows(alloc: Global) -> Result<Items<Row>, AllocError> {
+fn rows(alloc: Global) -> Result<Items<Row>, AllocError>
+    ensures { IfOk result (λ rows. length rows ≡ 1) }
+{
     let link = Row {
         name: Name::from_vec(Vec::from_slice(alloc, b"LINK")?),
         terms: pairs(alloc, 1, 1)?,

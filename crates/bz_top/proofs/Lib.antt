@@ -1,7 +1,8 @@
 pub mod Fours
+pub mod JudgeCounts
 pub mod Laws
 pub mod Loads
-pub mod PartSizes
+pub mod PartTexts
 pub mod PieceTexts
 pub mod Puts
 pub mod RefusalEnds

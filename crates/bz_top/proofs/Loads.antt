@@ -8,7 +8,6 @@ use Rattle.bz_io.specs.Told.{IfTold, WhereTold}
 use Rattle.bz_model.specs.declared.Model.{Model}
 use Rattle.bz_model.specs.Parting.{blocks_of}
 use Rattle.bz_model.specs.Splits.{Decomposition, IsSplit}
-use Rattle.bz_split.specs.Sizes.{rows_of_part}
 use Rattle.bz_model.specs.Strict.{IsStrict}
 use Rattle.bz_facts.specs.declared.MpsFault.{MpsFault}
 use Rattle.bz_mps.specs.FactModel.{ModelOf, MpsFaultOf}
@@ -25,7 +24,7 @@ use Rattle.bz_top.specs.declared.status.File.{File}
 use Rattle.bz_top.specs.declared.status.File.TheVariants.{Model as ModelFile, Part as PartFile, Cert as CertFile}
 use Rattle.bz_top.specs.declared.status.Refusal.{Refusal}
 use Rattle.bz_top.specs.declared.status.Refusal.TheVariants as refusal
-use Rattle.bz_top.specs.Claims.{AreRowCounts, HasCert, HasNoCert, LoadsFile, IsCause, IsTooLong, IsUnread, ReadsPart, limit_of, load_of}
+use Rattle.bz_top.specs.Claims.{HasCert, HasNoCert, LoadsFile, IsCause, IsTooLong, IsUnread, ReadsPart, limit_of, load_of}
 use Rattle.bz_top.specs.Ends.{name_of}
 use Rattle.bz_top.specs.Loads.{Accepted, AnswersFile, Certified, IsEarly, Modelled, Parted, Reached, RefusesCheck, RefusesFile, ShownParts, Splits}
 
@@ -226,9 +225,6 @@ split_accepted (Some desk) j d s h e split = record { part = subst (λ (a : Deco
 pub parts_shown : (told : Option Telling) (j : Job) (s : Decomposition) → HasNoCert j → Accepted told j s → ShownParts told j s
 parts_shown None j s asked h = tt
 parts_shown (Some desk) j s asked h = record { asked = asked; accepted = h }
-
-pub rows_counted : (d s : Decomposition) (rows : List ℕ) → s ≡ d → length rows ≡ blocks_of d.part + 1 → ((b : ℕ) → b ≤ blocks_of d.part → slice_index_or rows b 0 ≡ rows_of_part d.model d.part b) → AreRowCounts s rows
-rows_counted d s rows e l f = subst (λ (a : Decomposition). AreRowCounts a rows) (sym e) (record { parts = l; counts = f })
 
 -- ---- results
 -- what holds of the one error of a call holds of its error

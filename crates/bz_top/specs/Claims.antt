@@ -17,7 +17,7 @@ use Rattle.bz_mps.specs.FactModel.{ModelOf, MpsFaultOf}
 use Rattle.bz_part.specs.declared.PartFault.{PartFault as FaultOfPart}
 use Rattle.bz_part.specs.Partition.{PartFault, PartOf}
 use Rattle.bz_split.specs.declared.Unsplit.{Unsplit}
-use Rattle.bz_split.specs.Sizes.{rows_of_part}
+use Rattle.bz_split.specs.Counts.{AreRowCounts}
 use Rattle.bz_split.specs.SplitFaults.{IsSplitFault}
 use Rattle.bz_cert.specs.declared.CertFault.{CertFault}
 use Rattle.bz_cert.specs.declared.Certificate.{Certificate}
@@ -143,11 +143,6 @@ pub record ShowsVerdict (desk : Telling) (j : Job) (holding : Holding) : Type 0 
   pub passes : Passes split.model split.part certificate
   pub fits : Fits split.model split.part certificate
   pub shows : Shows split.model split.part certificate holding
-
--- the numbers are those of the rows of each part, the master's first
-pub record AreRowCounts (d : Decomposition) (rows : List ℕ) : Type 0 where
-  pub parts : length rows ≡ blocks_of d.part + 1
-  pub counts : (p : ℕ) → p ≤ blocks_of d.part → slice_index_or rows p 0 ≡ rows_of_part d.model d.part p
 
 -- the files are accepted and give the split
 pub record ShowsParts (desk : Telling) (j : Job) (d : Decomposition) : Type 0 where

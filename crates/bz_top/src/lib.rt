@@ -5,7 +5,6 @@ mod check;
 #[cfg(test)]
 mod edge_tests;
 mod job;
-mod kinds;
 mod loading;
 mod parting;
 mod pieces;

@@ -2,7 +2,6 @@
 ghost use Rattle.std.specs.Prelude.{◌≡◌, ◌≤◌, length, IfErr, IfOk, OnOk};
 ghost use Rattle.bz_io.specs.Desk.{IsAfterLoads, IsSame};
 ghost use Rattle.bz_io.specs.Told.{WhereTold};
-ghost use Rattle.bz_model.specs.Limits.{IsWithinLimits};
 ghost use Rattle.bz_model.specs.Splits.{IsSplit};
 ghost use Rattle.bz_model.specs.Strict.{HasItsColumns, IsPartition};
 ghost use Rattle.bz_top.specs.Claims.{CountsFiles, IsCause, limit_of, load_of};
@@ -65,7 +64,6 @@ pub(crate) fn load_file<D: Desk>(
 pub(crate) fn load_model<D: Desk>(alloc: Global, job: &Job, desk: &mut D) -> Result<Model, Refusal>
     ensures reads { IfOk result (Modelled (D.told desk.old) job.now) }
     ensures columns { IfOk result HasItsColumns }
-    ensures limits { IfOk result IsWithinLimits }
     ensures cause { IfErr result (IsCause (D.told desk.old) job.now) }
     ensures early { IfErr result IsEarly }
     ensures kept { WhereTold (IsAfterLoads 1) (D.told desk.old) (D.told desk.new) }
@@ -106,7 +104,6 @@ pub(crate) fn load_part<D: Desk>(
 pub(crate) fn split_of(alloc: Global, model: Model, part: Items<u32>) -> Result<Split, Refusal>
     requires columns { HasItsColumns model }
     requires partition { IsPartition model part }
-    requires limits { IsWithinLimits model }
     ensures { Splits (record { model = model; part = part }) result }
 {
     match split(alloc, model, part) {

@@ -3,7 +3,8 @@ ghost use Rattle.std.specs.Prelude.{IfErr, IfOk};
 ghost use Rattle.bz_io.specs.Desk.{IsSame};
 ghost use Rattle.bz_io.specs.Told.{WhereTold};
 ghost use Rattle.bz_model.specs.Splits.{IsSplit};
-ghost use Rattle.bz_top.specs.Claims.{AreRowCounts, CountsFiles, HasNoCert, IsCause};
+ghost use Rattle.bz_split.specs.Counts.{AreRowCounts};
+ghost use Rattle.bz_top.specs.Claims.{CountsFiles, HasNoCert, IsCause};
 ghost use Rattle.bz_top.specs.Loads.{EndsDecomposed, ShownParts};
 
 use crate::job::Job;
@@ -31,9 +32,9 @@ pub(crate) fn split_files<D: Desk>(
 {
     let model = load_model(alloc, job, desk)?;
     let part = load_part(alloc, job, desk, &model)?;
-    let Ok(rows) = rows_by_part(alloc, &model, part.as_slice()) else {
+    let split = split_of(alloc, model, part)?;
+    let Ok(rows) = rows_by_part(alloc, &split) else {
         return Err(Refusal::Memory);
     };
-    let split = split_of(alloc, model, part)?;
     Ok((split, rows))
 }

@@ -1,12 +1,10 @@
 //! The texts that the program prints. None of them takes memory.
-ghost use Rattle.std.specs.Prelude.{◌≡◌, ◌++◌, codes};
-ghost use Rattle.bz_model.specs.Parting.{part_of};
+ghost use Rattle.std.specs.Prelude.{◌≡◌, ◌++◌, ◌<◌, codes, length};
 ghost use Rattle.bz_top.specs.Ends.{refusal_text};
 ghost use Rattle.bz_top.specs.Putting.{Puts};
 ghost use Rattle.bz_top.specs.Texts.{cert_fault, check_fault, check_word, column_named, holds_text, line, memory_text, mps_fault, numbered, part_fault, row_named, split_fault, text_fault, usage_text};
 
 use crate::job::Job;
-use crate::kinds::{cert_name, cert_number, mps_name, mps_number, part_name, part_number};
 use crate::loading::file_name;
 use crate::pieces::Piece::{Count, Number, Text};
 use crate::pieces::put_pieces;
@@ -81,7 +79,7 @@ fn put_mps_fault<O: Sink>(out: &mut O, fault: MpsFault) -> Result<(), PutFailed>
     ensures { Puts O.taken O.faults out.old out.new (line (mps_fault fault)) result }
 {
     let kind = fault.kind;
-    put_text_fault(out, b"model", fault.line, mps_number(kind), mps_name(kind))
+    put_text_fault(out, b"model", fault.line, kind.number(), kind.name())
 }
 
 /// Puts the line of a fault of a partition's text.
@@ -89,13 +87,7 @@ fn put_part_fault<O: Sink>(out: &mut O, fault: PartFault) -> Result<(), PutFaile
     ensures { Puts O.taken O.faults out.old out.new (line (part_fault fault)) result }
 {
     let kind = fault.kind;
-    put_text_fault(
-        out,
-        b"partition",
-        fault.line,
-        part_number(kind),
-        part_name(kind),
-    )
+    put_text_fault(out, b"partition", fault.line, kind.number(), kind.name())
 }
 
 /// Puts the line of a fault of a certificate's text.
@@ -103,13 +95,7 @@ fn put_cert_fault<O: Sink>(out: &mut O, fault: CertFault) -> Result<(), PutFaile
     ensures { Puts O.taken O.faults out.old out.new (line (cert_fault fault)) result }
 {
     let kind = fault.kind;
-    put_text_fault(
-        out,
-        b"certificate",
-        fault.line,
-        cert_number(kind),
-        cert_name(kind),
-    )
+    put_text_fault(out, b"certificate", fault.line, kind.number(), kind.name())
 }
 
 /// Puts a line of two texts.
@@ -196,32 +182,18 @@ fn put_check_fault<O: Sink>(out: &mut O, fault: CheckFault) -> Result<(), PutFai
 
 /// The name of a row.
 fn row_name(model: &Model, row: u32) -> &[u8]
+    requires { row < length model.now.rows }
     ensures { result.now ≡ row_named model.now row }
 {
-    match model.rows.as_slice().get(row as usize) {
-        Some(row) => row.name.as_slice(),
-        None => b"",
-    }
+    model.rows.as_slice()[row as usize].name.as_slice()
 }
 
 /// The name of a column.
 fn column_name(model: &Model, column: u32) -> &[u8]
+    requires { column < length model.now.columns }
     ensures { result.now ≡ column_named model.now column }
 {
-    match model.columns.as_slice().get(column as usize) {
-        Some(column) => column.name.as_slice(),
-        None => b"",
-    }
-}
-
-/// The part of a column.
-fn part_at(part: &[u32], column: u32) -> u32
-    ensures { result ≡ part_of part.now column }
-{
-    match part.get(column as usize) {
-        Some(part) => *part,
-        None => 0,
-    }
+    model.columns.as_slice()[column as usize].name.as_slice()
 }
 
 /// Puts the line of why a model has no split.
@@ -237,7 +209,7 @@ fn put_unsplit<O: Sink>(out: &mut O, unsplit: &Unsplit) -> Result<(), PutFailed>
             out,
             b"split: integer in block ",
             column_name(model, column),
-            part_at(unsplit.part.as_slice(), column),
+            unsplit.part.as_slice()[column as usize],
         ),
         SplitFault::IntegerOpen { column } => {
             put_line(out, b"split: integer open ", column_name(model, column))

@@ -1,34 +1,14 @@
 //! The lines of the parts of a split.
-ghost use Rattle.std.specs.Prelude.{◌≡◌, ◌≤◌, ◌+◌, filter, length};
+ghost use Rattle.std.specs.Prelude.{◌≡◌, ◌≤◌, ◌+◌, length};
 ghost use Rattle.bz_model.specs.Parting.{blocks_of};
 ghost use Rattle.bz_model.specs.Splits.{IsSplit};
-ghost use Rattle.bz_model.specs.Strict.{size_of};
 ghost use Rattle.bz_top.specs.Putting.{Puts};
 ghost use Rattle.bz_top.specs.Texts.{part_line, parts_text};
 
 use crate::pieces::Piece::{Count, Text};
 use crate::pieces::put_pieces;
 use bz_io::{PutFailed, Sink};
-use bz_model::{Column, Split};
-
-/// How many of the columns are integers.
-fn integers_among(columns: &[Column]) -> usize
-    ensures { result ≡ length (filter (λ column. column.integer) columns.now) }
-{
-    columns.iter().filter(|column| column.integer).count()
-}
-
-/// How many inequalities a part has, two counted for each integer column of the master.
-fn size(split: &Split, part: u32) -> usize
-    requires { part ≤ blocks_of split.now.part }
-    ensures { result ≡ size_of split.now.model split.now.part part }
-{
-    let rows = split.inequalities(part).len();
-    if part == 0 {
-        return rows + 2 * integers_among(split.model().columns.as_slice());
-    }
-    rows
-}
+use bz_model::Split;
 
 /// Puts the line of a part.
 fn put_part<O: Sink>(out: &mut O, split: &Split, part: u32, rows: u32) -> Result<(), PutFailed>
@@ -45,7 +25,7 @@ fn put_part<O: Sink>(out: &mut O, split: &Split, part: u32, rows: u32) -> Result
             Text(b" rows "),
             Count(rows as usize),
             Text(b" inequalities "),
-            Count(size(split, part)),
+            Count(split.size(part) as usize),
             Text(b"\n"),
         ],
     )

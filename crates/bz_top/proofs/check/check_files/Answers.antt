@@ -1,4 +1,4 @@
-use Rattle.std.proofs.Common.{◌≡◌, subst, sym}
+use Rattle.std.proofs.Common.{◌≡◌, ◌∙◌, subst, sym}
 use Rattle.bz_cert.specs.Fits.{Fits}
 use Rattle.bz_cert.specs.Passing.{Passes}
 use Rattle.bz_model.specs.Splits.{IsSplit}
@@ -6,6 +6,7 @@ use Rattle.bz_top.specs.declared.said.Holding.{Holding}
 use Rattle.bz_top.specs.declared.status.Refusal.{Refusal}
 use Rattle.bz_top.specs.Claims.{IsCause}
 use Rattle.bz_top.specs.Loads.{RefusesCheck, Says, ShownHolding}
+use Rattle.bz_top.proofs.JudgeCounts.{judge_counts}
 use Rattle.bz_top.proofs.Loads.{cert_reached, check_refused, if_err_and, if_err_then, if_ok_then, same_after, same_then}
 use Rattle.bz_top.proofs.Showing.{shows}
 use Rattle.bz_top.proofs.Laws.{decomposes, ends_decomposed, verdicts_are_true}
@@ -49,3 +50,8 @@ returns-in_err-certificate-clause-kept g c = same_then _ _ _ c.in_ok-split.ensur
 
 pub returns-clause-kept : goal.returns-clause-kept
 returns-clause-kept g c = same_then _ _ _ c.in_ok-split.ensures.kept (same_after 1 _ _ c.in_ok-certificate.ensures.kept)
+
+pub returns-clause-count : goal.returns-clause-count
+returns-clause-count g c =
+    judge_counts c.in_ok-split.split c.in_ok-certificate.certificate c.judge.result (g.D.Desk.faults c.args.desk.now) (g.D.Desk.faults c.load_cert.new.desk)
+    c.judge.ensures.refused (c.in_ok-certificate.ensures.count ∙ c.in_ok-split.ensures.count)

@@ -1,4 +1,4 @@
-use Rattle.std.proofs.Common.{arith, ◌≡◌, List, None, ℕ, subst, sym}
+use Rattle.std.proofs.Common.{◌≡◌, List, None, ℕ, subst, sym}
 use Rattle.bz_mps.specs.FactModel.{ModelOf, MpsFaultOf}
 use Rattle.bz_top.specs.declared.status.File.TheVariants.{Model as ModelFile}
 use Rattle.bz_top.specs.declared.status.Refusal.{Refusal}
@@ -31,6 +31,3 @@ returns-in-Err-Fault-clause-cause g c =
     rw c.in-Err-Fault.field-0-is at c.in-Err-Fault.ensures.fault in
     model_refused _ _ _ _ (c.in_ok-text.ensures.answer _ (at_first _))
     (subst (λ (t : List ℕ). MpsFaultOf t c.in-Err-Fault.fault.line c.in-Err-Fault.fault.kind) c.as_slice.ensures.value is)
-
-pub returns-in-Ok-clause-limits : goal.returns-in-Ok-clause-limits
-returns-in-Ok-clause-limits g c = record { columns = omega (arith, c.in-Ok.ensures.few_columns); rows = omega (arith, c.in-Ok.ensures.few_rows) }

@@ -1,10 +1,8 @@
-use Rattle.std.proofs.Common.{◌≡◌, ◌≤◌, ◌+◌, ℕ, List, length, slice_index_or, subst, sym}
-use Rattle.bz_model.specs.Parting.{blocks_of}
-use Rattle.bz_split.specs.Sizes.{rows_of_part}
+use Rattle.std.proofs.Common.{◌≡◌, subst, sym}
 use Rattle.bz_top.specs.declared.status.Refusal.{Refusal}
 use Rattle.bz_top.specs.Claims.{IsCause}
 use Rattle.bz_top.proofs.Laws.{decomposes}
-use Rattle.bz_top.proofs.Loads.{after_both, if_err_and, parts_shown, rows_counted, same_after, split_accepted, split_refused}
+use Rattle.bz_top.proofs.Loads.{after_both, if_err_and, parts_shown, same_after, split_accepted, split_refused}
 use Rattle.bz_top.proofs.parting.split_files.Goals as goal
 
 pub returns-in_err-part-clause-cause : goal.returns-in_err-part-clause-cause
@@ -34,9 +32,3 @@ returns-clause-decomposed g c =
 
 pub returns-clause-kept : goal.returns-clause-kept
 returns-clause-kept g c = same_after 2 _ _ (after_both 1 1 _ _ _ c.in_ok-model.ensures.kept c.in_ok-part.ensures.kept)
-
-pub returns-clause-rows : goal.returns-clause-rows
-returns-clause-rows g c =
-    rows_counted (record { model = c.in_ok-model.model; part = c.in_ok-part.part }) _ _ c.in_ok-split.ensures.0
-    (subst (λ (p : List ℕ). length c.in-Ok.rows.items ≡ blocks_of p + 1) c.as_slice.ensures c.in-Ok.ensures.parts)
-    (subst (λ (p : List ℕ). (b : ℕ) → b ≤ blocks_of p → slice_index_or c.in-Ok.rows.items b 0 ≡ rows_of_part c.in_ok-model.model p b) c.as_slice.ensures c.in-Ok.ensures.rows)

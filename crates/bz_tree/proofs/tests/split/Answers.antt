@@ -1,8 +1,5 @@
-use Rattle.bz_model.proofs.WorkedModel.{worked_limits, worked_strict}
+use Rattle.bz_model.proofs.WorkedModel.{worked_strict}
 use Rattle.bz_tree.proofs.tests.split.Goals as goal
 
 pub new-requires-clause-strict : goal.new-requires-clause-strict
 new-requires-clause-strict c = rw (c.from_vec-part.ensures, c.in_ok-from_slice.ensures.items) (worked_strict c.in_ok-model.model c.in_ok-model.ensures.columns c.in_ok-model.ensures.rows)
-
-pub new-requires-clause-limits : goal.new-requires-clause-limits
-new-requires-clause-limits c = worked_limits c.in_ok-model.model c.in_ok-model.ensures.columns c.in_ok-model.ensures.rows
