@@ -19,3 +19,6 @@ pub use laws::{
 pub use nodes::node_lp;
 pub use separation::separation_lp;
 pub use stops::BuildStop;
+
+#[cfg(test)]
+mod tests;
