@@ -8,7 +8,9 @@ pub mod Entries
 pub mod FloorEnds
 pub mod LeavesMade
 pub mod Lines
+pub mod ListFacts
 pub mod Listed
+pub mod LowestForms
 pub mod Moved
 pub mod NodeFloors
 pub mod OverColumns
