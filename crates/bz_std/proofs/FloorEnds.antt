@@ -1,19 +1,18 @@
 -- The two ends of a posed program's cost, and of a block's.
-use Rattle.std.specs.Prelude.{ℕ, ◌<◌, ◌≡◌, ℤ, pos, ◌+ℤ◌, ◌*ℤ◌, neg_ℤ, ◌≤ℤ◌, ◌<ℤ◌, ◌⊎◌, List, length}
-use Rattle.std.proofs.Common.{refl, ap, sym, ◌∙◌, arith, inl, inr}
+use Rattle.std.specs.Prelude.{ℕ, ◌<◌, ◌≡◌, ℤ, pos, ◌*ℤ◌, neg_ℤ, ◌≤ℤ◌, ◌<ℤ◌, ◌⊎◌, List, length}
+use Rattle.std.proofs.Common.{refl, sym, ◌∙◌, arith, inl, inr}
 use Rattle.std.proofs.lemmas.Int.{ints}
 use Rattle.std.proofs.lemmas.List.{length-map}
 use Rattle.bz_algebra.specs.Sums.{dot, coef, upto}
 use Rattle.bz_algebra.proofs.Ring.{mul_zero}
 use Rattle.bz_algebra.proofs.SumLemmas.{dot_all, upto_zeros}
-use Rattle.bz_farkas.specs.Falls.{HasBalance, HasFall, IsFall}
+use Rattle.bz_farkas.specs.Falls.{IsFall}
 use Rattle.bz_farkas.proofs.Farkas as dense
 use Rattle.bz_model.specs.declared.Ineq.{Ineq}
 use Rattle.bz_model.specs.declared.Model.{Model}
 use Rattle.bz_model.specs.Decomposed.{IsDecomposed}
-use Rattle.bz_model.specs.Parting.{inequalities_of, inner_cost, terms_in, width_of}
+use Rattle.bz_model.specs.Parting.{inequalities_of}
 use Rattle.bz_cut.specs.Rows.{own_at}
-use Rattle.bz_std.specs.CutsFrom.{BalancesCost}
 use Rattle.bz_std.specs.Floored.{CostFalls, CostIsBalanced}
 use Rattle.bz_std.specs.Meanings.{terms_at, sum_on, sum_right, AreNonnegative, IsEmptyBy, IsFallAlong}
 use Rattle.bz_std.specs.Posed.{IsPosed, Posed}
