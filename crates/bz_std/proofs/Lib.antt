@@ -13,6 +13,7 @@ pub mod Listed
 pub mod LowestForms
 pub mod Moved
 pub mod NodeFloors
+pub mod OneLowest
 pub mod OverColumns
 pub mod PosedTasks
 pub mod RightSides

@@ -168,3 +168,10 @@ pub record LowestFormsMeet : Type 0 where
       MeetsWithin (node m part box cuts way) v den (pos 0) → length point.x ≡ width_of part 0 →
       IsLowestOf (width_of part 0 + blocks_of part) den v point.den (point.x ++ point.eta) →
       MeetsNode m part box cuts point
+
+-- Numbers over a positive denominator have exactly one lowest form.
+pub record OneLowestForm : Type 0 where
+  pub some : (n : ℕ) (den : ℤ) (f : ℕ → ℤ) → (pos 0) <ℤ den →
+      (low : ℤ) × (values : List ℤ) × IsLowestOf n den f low values
+  pub one : (n : ℕ) (den : ℤ) (f : ℕ → ℤ) (low other : ℤ) (values others : List ℤ) →
+      IsLowestOf n den f low values → IsLowestOf n den f other others → (low ≡ other) × (values ≡ others)

@@ -1,5 +1,5 @@
 //! What is proved of the programs of a split.
-ghost use Rattle.bz_std.specs.Laws.{AnswersCross, CutsAreOfBases, CutsAreValid, FloorsHaveOneEnd, LeavesAreRight, LowestFormsMeet, NodesNeverFall, PointsAreDecided, SeparationsCutOff, TasksArePosed};
+ghost use Rattle.bz_std.specs.Laws.{AnswersCross, CutsAreOfBases, CutsAreValid, FloorsHaveOneEnd, LeavesAreRight, LowestFormsMeet, NodesNeverFall, OneLowestForm, PointsAreDecided, SeparationsCutOff, TasksArePosed};
 
 /// What an answer says of the columns of a program, it says of the variables that they stand for.
 pub fn answers_cross()
@@ -51,4 +51,9 @@ pub fn cuts_are_of_bases()
 /// A point that meets a separation or a node meets it in its lowest form too, inequality by inequality.
 pub fn lowest_forms_meet()
     ensures { LowestFormsMeet }
+{}
+
+/// Numbers over a positive denominator have exactly one lowest form.
+pub fn one_lowest_form()
+    ensures { OneLowestForm }
 {}
