@@ -133,7 +133,8 @@ pub record NodesNeverFall : Type 0 where
       ¬ IsFallAlong (node m part box cuts mode.Point) d
 
 -- The cut that an answer of a separation names is that of its basis, and a basis has one cut at most, as have the bases
--- with the same columns, in whatever order: not only do such cuts say the same, they come from the same multipliers.
+-- with the same columns, in whatever order: not only do such cuts say the same, they come from the same multipliers. A
+-- basis, like a program, is of one mode.
 pub record CutsAreOfBases : Type 0 where
   pub of_answer : (m : Model) (part : List ℕ) (point : Master) (b : ℕ) (way : Mode)
       (lp : Lp) (basis : List ℕ) (z y : Vals) (cut : Cut) → IsSeparationLp m part point b way lp →
@@ -146,6 +147,10 @@ pub record CutsAreOfBases : Type 0 where
       AreAlike (length basis) (place basis) (place others) →
       CutOf m part way b basis cut → CutOf m part way b others copy →
       AreSame cut copy × (cut.mu ≡ copy.mu) × (cut.gcd ≡ copy.gcd)
+  pub one_mode : (m : Model) (part : List ℕ) (b : ℕ) (way kind : Mode) (basis : List ℕ) (cut copy : Cut) →
+      CutOf m part way b basis cut → CutOf m part kind b basis copy → way ≡ kind
+  pub one_program_mode : (m : Model) (part : List ℕ) (b : ℕ) (point other : Master) (way kind : Mode) (lp : Lp) →
+      IsSeparationLp m part point b way lp → IsSeparationLp m part other b kind lp → way ≡ kind
 
 -- A point that meets a separation or a node meets it in its lowest form, each inequality by itself, and it is whole
 -- where it was.
