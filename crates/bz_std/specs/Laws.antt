@@ -115,12 +115,13 @@ pub record TasksArePosed : Type 0 where
       AllByRecursion (IsCutOfSplit part) cuts → IsPosed (node m part box cuts way)
 
 -- Of each block exactly one of the two exists: a direction along which its cost falls and none of its inequalities
--- rises, or multipliers that balance the cost. And a floor's program always has a point.
+-- rises, or multipliers that balance the cost. And a floor's program always has a point, so that none is shown empty.
 pub record FloorsHaveOneEnd : Type 0 where
   pub either : (m : Model) (part : List ℕ) (b : ℕ) → IsDecomposed m part →
       CostFalls m part b ⊎ CostIsBalanced m part b
   pub not_both : (m : Model) (part : List ℕ) (b : ℕ) → IsDecomposed m part →
       CostFalls m part b → ¬ CostIsBalanced m part b
+  pub possible : (m : Model) (part : List ℕ) (b : ℕ) → IsPossible (floor m part b)
   pub never_empty : (m : Model) (part : List ℕ) (b : ℕ) (y : ℕ → ℤ) → ¬ IsEmptyBy (floor m part b) y
 
 -- A node's cost falls along no direction: its columns are bounded, as the partition is strict, and each eta has a floor

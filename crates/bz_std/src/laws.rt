@@ -33,7 +33,7 @@ pub fn tasks_are_posed()
 {}
 
 /// A block's cost falls along a direction that no inequality forbids, or multipliers of its inequalities balance it,
-/// and never both. No multipliers show that a floor's program has no point.
+/// and never both. A floor's program always has a point.
 pub fn floors_have_one_end()
     ensures { FloorsHaveOneEnd }
 {}
