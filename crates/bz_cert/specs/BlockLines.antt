@@ -9,4 +9,5 @@ use Rattle.bz_cert.specs.CertText.{line_with}
 abbrev pub BlockLineIs : Word → ℕ → ℕ → List ℕ → BlockLine → Type 0
 BlockLineIs last block lines rest (BlockLine.Block part behind) =
     ReadsLine lines rest (line_with Word.Block (pos block ∷ part.times ∷ part.y)) behind.lines behind.rest.now
-BlockLineIs last block lines rest (BlockLine.Last numbers from_feed) = BeginsWithCertLine rest (line_with last numbers.items) from_feed.now
+BlockLineIs last block lines rest (BlockLine.Last numbers from_feed) =
+    BeginsWithCertLine rest (line_with last numbers.items) from_feed.now

@@ -235,9 +235,21 @@ tests_of verdict before line =
     record { breaks = (word : Word) → HasWord line word → IsPossible verdict before word → ⊥; kind = CertKind.Line }
     ∷ record { breaks = (word : Word) × HasWord line word × BreaksTree verdict before word; kind = CertKind.Tree }
     ∷ record { breaks = (word : Word) (numbers : List ℤ) → IsLineOf line word numbers → ⊥; kind = CertKind.Number }
-    ∷ record { breaks = (l : CertLine) × IsLineOf line l.word l.numbers × IsTooMany before l.word l.numbers; kind = CertKind.Limit }
-    ∷ record { breaks = (l : CertLine) × IsLineOf line l.word l.numbers × (AreEnough l.word l.numbers → ⊥); kind = CertKind.Line }
-    ∷ record { breaks = (l : CertLine) × IsLineOf line l.word l.numbers × (AreInOrder before l.word l.numbers → ⊥); kind = CertKind.Order }
+    ∷ record {
+      breaks = (l : CertLine) × IsLineOf line l.word l.numbers
+          × IsTooMany before l.word l.numbers;
+      kind = CertKind.Limit;
+    }
+    ∷ record {
+      breaks = (l : CertLine) × IsLineOf line l.word l.numbers
+          × (AreEnough l.word l.numbers → ⊥);
+      kind = CertKind.Line;
+    }
+    ∷ record {
+      breaks = (l : CertLine) × IsLineOf line l.word l.numbers
+          × (AreInOrder before l.word l.numbers → ⊥);
+      kind = CertKind.Order;
+    }
     ∷ []
 
 -- the tests of a line behind one of that word: behind the last line no line may come
@@ -269,11 +281,15 @@ pub record BeginsWithLine (rest line from_feed : List ℕ) : Type 0 where
 
 -- What is left of a text behind so many lines fails at once: it is empty where a line has to come, its first line breaks
 -- a test, or that line lacks its line feed alone.
-pub data FailsAtOnce (verdict : Verdict) (before : Standing) (lines : ℕ) (rest : List ℕ) (number : ℕ) (kind : CertKind) : Type 0 where
-  ends : rest ≡ [] → before.last ≢ Some Word.End → number ≡ lines → kind ≡ CertKind.End → FailsAtOnce verdict before lines rest number kind
-  breaks : (line from_feed : List ℕ) → BeginsWithLine rest line from_feed → BreaksFirst (tests_behind before.last verdict before line) kind →
+pub data FailsAtOnce
+    (verdict : Verdict) (before : Standing) (lines : ℕ) (rest : List ℕ) (number : ℕ) (kind : CertKind) : Type 0 where
+  ends : rest ≡ [] → before.last ≢ Some Word.End → number ≡ lines → kind ≡ CertKind.End →
+      FailsAtOnce verdict before lines rest number kind
+  breaks : (line from_feed : List ℕ) → BeginsWithLine rest line from_feed →
+      BreaksFirst (tests_behind before.last verdict before line) kind →
       number ≡ suc lines → FailsAtOnce verdict before lines rest number kind
-  lacks_feed : (line : CertLine) → rest ≡ line_bytes line → Passes verdict before line → number ≡ suc lines → kind ≡ CertKind.End →
+  lacks_feed : (line : CertLine) → rest ≡ line_bytes line → Passes verdict before line → number ≡ suc lines →
+      kind ≡ CertKind.End →
       FailsAtOnce verdict before lines rest number kind
 
 -- behind the first two lines some line fails, and the lines before it pass
@@ -296,9 +312,11 @@ EndsInHead text number =
 -- The text fails first on the line of that number, in that way: the number of the last line where lines are missing at
 -- its end.
 pub data IsCertFault (text : List ℕ) (number : ℕ) (kind : CertKind) : Type 0 where
-  head : (line from_feed : List ℕ) → BeginsWithLine text line from_feed → line ≢ first_line → number ≡ 1 → kind ≡ CertKind.Head →
+  head : (line from_feed : List ℕ) → BeginsWithLine text line from_feed → line ≢ first_line → number ≡ 1 →
+      kind ≡ CertKind.Head →
       IsCertFault text number kind
   verdict : (rest line from_feed : List ℕ) → text ≡ first_line ++ 10 ∷ rest → BeginsWithLine rest line from_feed →
-      ((verdict : Verdict) → line ≢ verdict_line verdict) → number ≡ 2 → kind ≡ CertKind.Verdict → IsCertFault text number kind
+      ((verdict : Verdict) → line ≢ verdict_line verdict) → number ≡ 2 → kind ≡ CertKind.Verdict →
+      IsCertFault text number kind
   ends : EndsInHead text number → kind ≡ CertKind.End → IsCertFault text number kind
   behind_head : FailsBehindHead text number kind → IsCertFault text number kind

@@ -23,10 +23,13 @@ pub record AwaitsBlocks (verdict : Verdict) (before : Standing) (last : Word) : 
 
 abbrev pub FailsAtBlocks : Word → ℕ → List ℕ → ℕ → CertKind → Type 0
 FailsAtBlocks last lines rest number kind =
-    (verdict : Verdict) (before : Standing) → AwaitsBlocks verdict before last → FailsFrom verdict before lines rest number kind
+    (verdict : Verdict) (before : Standing) → AwaitsBlocks verdict before last →
+    FailsFrom verdict before lines rest number kind
 
 -- blocks, and behind them a line of the other word
-pub record ReadsBlocks (last : Word) (parts : List BlockPart) (lines : ℕ) (rest : List ℕ) (lines_now : ℕ) (rest_now : List ℕ) (numbers : List ℤ) (from_feed : List ℕ) : Type 0 where
+pub record ReadsBlocks
+    (last : Word) (parts : List BlockPart) (lines : ℕ) (rest : List ℕ) (lines_now : ℕ) (rest_now : List ℕ)
+    (numbers : List ℤ) (from_feed : List ℕ) : Type 0 where
   pub reads : (verdict : Verdict) (before : Standing) → AwaitsBlocks verdict before last →
       Reads verdict before (block_lines 1 parts) lines rest lines_now rest_now
       × Awaits verdict (advance_all before (block_lines 1 parts)) (Word.Block ∷ last ∷ [])
@@ -42,9 +45,11 @@ pub record AwaitsCuts (verdict : Verdict) (before : Standing) (count : ℕ) : Ty
 
 abbrev pub FailsAtCuts : ℕ → ℕ → List ℕ → ℕ → CertKind → Type 0
 FailsAtCuts count lines rest number kind =
-    (verdict : Verdict) (before : Standing) → AwaitsCuts verdict before count → FailsFrom verdict before lines rest number kind
+    (verdict : Verdict) (before : Standing) → AwaitsCuts verdict before count →
+    FailsFrom verdict before lines rest number kind
 
-pub record ReadsCuts (count : ℕ) (cuts : List Cut) (lines : ℕ) (rest : List ℕ) (lines_now : ℕ) (rest_now : List ℕ) : Type 0 where
+pub record ReadsCuts
+    (count : ℕ) (cuts : List Cut) (lines : ℕ) (rest : List ℕ) (lines_now : ℕ) (rest_now : List ℕ) : Type 0 where
   pub reads : (verdict : Verdict) (before : Standing) → AwaitsCuts verdict before count →
       Reads verdict before (map cut_line cuts) lines rest lines_now rest_now
       × Awaits verdict (advance_all before (map cut_line cuts)) tree_words
@@ -60,9 +65,11 @@ pub record AwaitsTree (verdict : Verdict) (before : Standing) : Type 0 where
 
 abbrev pub FailsAtTree : ℕ → List ℕ → ℕ → CertKind → Type 0
 FailsAtTree lines rest number kind =
-    (verdict : Verdict) (before : Standing) → AwaitsTree verdict before → FailsFrom verdict before lines rest number kind
+    (verdict : Verdict) (before : Standing) → AwaitsTree verdict before →
+    FailsFrom verdict before lines rest number kind
 
-pub record ReadsTree (nodes : List TreeNode) (lines : ℕ) (rest : List ℕ) (lines_now : ℕ) (rest_now : List ℕ) : Type 0 where
+pub record ReadsTree
+    (nodes : List TreeNode) (lines : ℕ) (rest : List ℕ) (lines_now : ℕ) (rest_now : List ℕ) : Type 0 where
   pub reads : (verdict : Verdict) (before : Standing) → AwaitsTree verdict before →
       Reads verdict before (map node_line nodes) lines rest lines_now rest_now
       × Awaits verdict (advance_all before (map node_line nodes)) tree_words
@@ -87,7 +94,9 @@ pub record NodesTold (verdict : Verdict) (before : Standing) (trees nodes : ℕ)
 
 -- so many trees behind the nodes make them one tree
 abbrev pub MakesTree : ℕ → List TreeNode → Type 0
-MakesTree count nodes = (trees : List Tree) → length trees ≡ count → (tree : Tree) × (nodes ++ flat_map preorder trees ≡ preorder tree)
+MakesTree count nodes =
+    (trees : List Tree) → length trees ≡ count →
+    (tree : Tree) × (nodes ++ flat_map preorder trees ≡ preorder tree)
 
 -- how many trees are still to come behind one more node
 abbrev pub trees_behind : TreeNode → ℕ → ℕ
@@ -99,7 +108,9 @@ abbrev pub start : Standing
 start = record { last = None; blocks = 0; told = 0; cuts = 0; splits = 0; leaves = 0 }
 
 -- blocks, and behind them that line
-pub record ReadsBlocksTo (line : CertLine) (parts : List BlockPart) (lines : ℕ) (rest : List ℕ) (lines_now : ℕ) (rest_now : List ℕ) : Type 0 where
+pub record ReadsBlocksTo
+    (line : CertLine) (parts : List BlockPart) (lines : ℕ) (rest : List ℕ)
+    (lines_now : ℕ) (rest_now : List ℕ) : Type 0 where
   pub reads : (verdict : Verdict) (before : Standing) → AwaitsBlocks verdict before line.word →
       Reads verdict before (block_lines 1 parts ++ line ∷ []) lines rest lines_now rest_now
   pub few : length parts < 2 ^ 32
@@ -116,7 +127,8 @@ pub record AwaitsBound (verdict : Verdict) (before : Standing) : Type 0 where
 
 abbrev pub FailsAtBound : ℕ → List ℕ → ℕ → CertKind → Type 0
 FailsAtBound lines rest number kind =
-    (verdict : Verdict) (before : Standing) → AwaitsBound verdict before → FailsFrom verdict before lines rest number kind
+    (verdict : Verdict) (before : Standing) → AwaitsBound verdict before →
+    FailsFrom verdict before lines rest number kind
 
 -- the cuts and the tree, up to the end of the text
 pub record ReadsBound (cuts : List Cut) (tree : List TreeNode) (lines : ℕ) (rest : List ℕ) : Type 0 where

@@ -1,5 +1,5 @@
 -- What the parts of a certificate's text say, and how a part fails.
-use Rattle.std.specs.Prelude.{ℕ, suc, ℤ, pos, ◌≡◌, ◌≢◌, ◌+◌, ◌<◌, ◌^◌, ◌⊎◌, List, [], ◌∷◌, ◌++◌, length, Some, Result, Ok, Err, nat_lt}
+use Rattle.std.specs.Prelude.{ℕ, suc, ℤ, pos, ◌≡◌, ◌≢◌, ◌+◌, ◌<◌, ◌^◌, ◌⊎◌, List, [], ◌∷◌, ◌++◌, length, Some, Result, Ok, Err, nat_lt, ◌≤◌}
 use Rattle.std.specs.Fmt.{signed_decimal}
 use Rattle.std.specs.List.{AllByRecursion, flat_map}
 use Rattle.bz_algebra.specs.Numbers.{IsNarrow}
@@ -62,7 +62,8 @@ PassFrom verdict before [] = Unit {0}
 PassFrom verdict before (line ∷ lines) = Passes verdict before line × PassFrom verdict (advance before line) lines
 
 -- behind so many lines, some line of the rest fails, and the lines before it pass
-pub record FailsFrom (verdict : Verdict) (before : Standing) (lines : ℕ) (rest : List ℕ) (number : ℕ) (kind : CertKind) : Type 0 where
+pub record FailsFrom
+    (verdict : Verdict) (before : Standing) (lines : ℕ) (rest : List ℕ) (number : ℕ) (kind : CertKind) : Type 0 where
   pub passed : List CertLine
   pub behind : List ℕ
   pub joined : rest ≡ laid_out passed ++ behind
@@ -70,7 +71,9 @@ pub record FailsFrom (verdict : Verdict) (before : Standing) (lines : ℕ) (rest
   pub fails : FailsAtOnce verdict (advance_all before passed) (lines + length passed) behind number kind
 
 -- the rest behind so many lines begins with these, which pass, and `rest_now` is left behind `lines_now`
-pub record Reads (verdict : Verdict) (before : Standing) (passed : List CertLine) (lines : ℕ) (rest : List ℕ) (lines_now : ℕ) (rest_now : List ℕ) : Type 0 where
+pub record Reads
+    (verdict : Verdict) (before : Standing) (passed : List CertLine) (lines : ℕ) (rest : List ℕ)
+    (lines_now : ℕ) (rest_now : List ℕ) : Type 0 where
   pub joined : rest ≡ laid_out passed ++ rest_now
   pub count : lines_now ≡ lines + length passed
   pub pass : PassFrom verdict before passed
@@ -106,7 +109,25 @@ NumbersFail line before word numbers number kind =
     (number ≡ line)
     × (((kind ≡ CertKind.Limit) × IsTooMany before word numbers)
     ⊎ ((kind ≡ CertKind.Line) × (IsTooMany before word numbers → ⊥) × (AreEnough word numbers → ⊥))
-    ⊎ ((kind ≡ CertKind.Order) × (IsTooMany before word numbers → ⊥) × AreEnough word numbers × (AreInOrder before word numbers → ⊥)))
+    ⊎ ((kind ≡ CertKind.Order)
+    × (IsTooMany before word numbers → ⊥) × AreEnough word numbers × (AreInOrder before word numbers → ⊥)))
+
+-- the same wherever the line stands: in front of a block with this number; where there is room for a node; behind so many
+-- nodes; anywhere
+abbrev pub FailAsBlock : ℕ → ℕ → List ℤ → ℕ → CertKind → Type 0
+FailAsBlock line block numbers number kind =
+    (before : Standing) → suc before.blocks ≡ block → NumbersFail line before Word.Block numbers number kind
+
+abbrev pub FailInRoom : ℕ → Word → List ℤ → ℕ → CertKind → Type 0
+FailInRoom line word numbers number kind =
+    (before : Standing) → before.splits + before.leaves ≤ 65534 → NumbersFail line before word numbers number kind
+
+abbrev pub FailBehind : ℕ → ℕ → Word → List ℤ → ℕ → CertKind → Type 0
+FailBehind nodes line word numbers number kind =
+    (before : Standing) → before.splits + before.leaves ≡ nodes → NumbersFail line before word numbers number kind
+
+abbrev pub FailAnywhere : ℕ → Word → List ℤ → ℕ → CertKind → Type 0
+FailAnywhere line word numbers number kind = (before : Standing) → NumbersFail line before word numbers number kind
 
 -- the rest begins with a line of that word, and what stands behind the word, and from the line's end on
 pub record BeginsWithWord (rest : List ℕ) (word : Word) (behind from_feed : List ℕ) : Type 0 where
@@ -141,7 +162,8 @@ FailsAtBlock last block lines rest number kind =
 -- the same, where the line may break the tree
 abbrev pub FailsComing : List Word → ℕ → List ℕ → ℕ → CertKind → Type 0
 FailsComing words lines rest number kind =
-    (verdict : Verdict) (before : Standing) → Awaits verdict before words → FailsAtOnce verdict before lines rest number kind
+    (verdict : Verdict) (before : Standing) → Awaits verdict before words →
+    FailsAtOnce verdict before lines rest number kind
 
 -- the words of a tree's lines, and of the line behind it
 abbrev pub tree_words : List Word
@@ -156,6 +178,25 @@ FailsAtNode nodes lines rest number kind =
 -- what is left of a text fails at once, wherever the last line has to come, before which another word breaks the tree
 abbrev pub FailsAtEnd : List Word → ℕ → List ℕ → ℕ → CertKind → Type 0
 FailsAtEnd words lines rest number kind =
-    (verdict : Verdict) (before : Standing) → Awaits verdict before words → IsIn words Word.End → (BreaksTree verdict before Word.End → ⊥)
+    (verdict : Verdict) (before : Standing) → Awaits verdict before words → IsIn words Word.End →
+    (BreaksTree verdict before Word.End → ⊥)
     → ((word : Word) → IsIn words word → word ≢ Word.End → BreaksTree verdict before word)
     → FailsAtOnce verdict before lines rest number kind
+
+-- ---- what no list is
+-- the text is no list of numbers, and none of a line of the word
+abbrev pub IsNoNumbers : List ℕ → Type 0
+IsNoNumbers text = (numbers : List ℤ) → AreNumbers text numbers → ⊥
+
+abbrev pub IsNoNumbersOf : Word → List ℕ → Type 0
+IsNoNumbersOf word text = (numbers : List ℤ) → AreNumbersOf word text numbers → ⊥
+
+-- the numbers begin with no so many pairs, with no list, and are no two lists
+abbrev pub BeginWithNoPairs : ℕ → List ℤ → Type 0
+BeginWithNoPairs count numbers = (es : List (ℕ × ℤ)) (rest : List ℤ) → BeginsWithPairs count es numbers rest → ⊥
+
+abbrev pub BeginWithNoList : List ℤ → Type 0
+BeginWithNoList numbers = (es : List (ℕ × ℤ)) (rest : List ℤ) → BeginsWithList es numbers rest → ⊥
+
+abbrev pub AreNoTwoLists : List ℤ → Type 0
+AreNoTwoLists numbers = (es fs : List (ℕ × ℤ)) → AreTwoLists es fs numbers → ⊥

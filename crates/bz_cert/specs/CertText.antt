@@ -73,7 +73,8 @@ block_lines first blocks = map (λ e. line_with Word.Block (pos e.0 ∷ e.1.time
 -- the line of a cut
 abbrev pub cut_line : Cut → CertLine
 cut_line cut =
-    line_with Word.Cut (pos cut.block ∷ cut.p0 ∷ cut.beta ∷ cut.gcd ∷ (sparse_numbers cut.alpha ++ sparse_numbers cut.mu))
+    line_with Word.Cut (pos cut.block ∷ cut.p0 ∷ cut.beta ∷ cut.gcd
+    ∷ (sparse_numbers cut.alpha ++ sparse_numbers cut.mu))
 
 -- the line of a node of the tree
 abbrev pub node_line : TreeNode → CertLine
@@ -83,7 +84,8 @@ node_line (TreeNode.Leaf leaf) = line_with Word.Leaf (leaf.delta ∷ leaf.bound 
 -- the lines of the cuts, of the tree and of the end
 abbrev pub bound_lines : List Cut → List TreeNode → List CertLine
 bound_lines cuts tree =
-    line_with Word.Cuts (pos (length cuts) ∷ []) ∷ (map cut_line cuts ++ map node_line tree ++ line_with Word.End [] ∷ [])
+    line_with Word.Cuts (pos (length cuts) ∷ [])
+    ∷ (map cut_line cuts ++ map node_line tree ++ line_with Word.End [] ∷ [])
 
 -- The lines behind the verdict's: an optimum has a point, its value, cuts and a tree; a model without feasible points
 -- has cuts and a tree; an unbounded one has a point and a direction.

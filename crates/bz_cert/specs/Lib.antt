@@ -1,5 +1,6 @@
 pub mod BlockLines
 pub mod CertFaults
+pub mod CertKinds
 pub mod CertPhases
 pub mod CertReading
 pub mod CertText

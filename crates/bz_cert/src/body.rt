@@ -24,7 +24,9 @@ use std::alloc::Global;
 
 /// The text ends here.
 fn finish(at: Place<'_>) -> Result<(), CertStop>
-    ensures { Answers (λ nothing. at.entry.rest.now ≡ []) (λ number kind. (verdict : Verdict) (before : Standing) → before.last ≡ Some Word.End → FailsAtOnce verdict before at.entry.lines at.entry.rest.now number kind) result }
+    ensures { Answers (λ nothing. at.entry.rest.now ≡ [])
+        (λ number kind. (verdict : Verdict) (before : Standing) → before.last ≡ Some Word.End →
+        FailsAtOnce verdict before at.entry.lines at.entry.rest.now number kind) result }
 {
     if at.rest.is_empty() {
         Ok(())
@@ -73,7 +75,10 @@ struct Directed<'a> {
 
 /// The blocks and the value.
 fn read_valued<'a>(alloc: Global, at: Place<'a>) -> Result<Valued<'a>, CertStop>
-    ensures { Answers (λ r. ReadsBlocksTo (line_with Word.Value (r.value ∷ [])) r.blocks.items at.entry.lines at.entry.rest.now r.behind.lines r.behind.rest.now) (FailsAtBlocks Word.Value at.entry.lines at.entry.rest.now) result }
+    ensures { Answers
+        (λ r. ReadsBlocksTo (line_with Word.Value (r.value ∷ [])) r.blocks.items
+        at.entry.lines at.entry.rest.now r.behind.lines r.behind.rest.now)
+        (FailsAtBlocks Word.Value at.entry.lines at.entry.rest.now) result }
 {
     let blocks = read_blocks(alloc, at, Word::Value)?;
     let value = value_of(blocks.behind.lines + 1, blocks.last.as_slice())?;
@@ -87,7 +92,10 @@ fn read_valued<'a>(alloc: Global, at: Place<'a>) -> Result<Valued<'a>, CertStop>
 
 /// The blocks and the direction.
 fn read_directed<'a>(alloc: Global, at: Place<'a>) -> Result<Directed<'a>, CertStop>
-    ensures { Answers (λ r. ReadsBlocksTo (line_with Word.Ray r.ray.items) r.blocks.items at.entry.lines at.entry.rest.now r.behind.lines r.behind.rest.now) (FailsAtBlocks Word.Ray at.entry.lines at.entry.rest.now) result }
+    ensures { Answers
+        (λ r. ReadsBlocksTo (line_with Word.Ray r.ray.items) r.blocks.items
+        at.entry.lines at.entry.rest.now r.behind.lines r.behind.rest.now)
+        (FailsAtBlocks Word.Ray at.entry.lines at.entry.rest.now) result }
 {
     let blocks = read_blocks(alloc, at, Word::Ray)?;
     let behind = next_place(blocks.behind, blocks.from_feed)?;
@@ -100,7 +108,8 @@ fn read_directed<'a>(alloc: Global, at: Place<'a>) -> Result<Directed<'a>, CertS
 
 /// The cuts and the tree, up to the end of the text.
 fn read_bound(alloc: Global, at: Place<'_>) -> Result<(Vec<Cut>, Vec<TreeNode>), CertStop>
-    ensures { Answers (λ r. ReadsBound r.0.items r.1.items at.entry.lines at.entry.rest.now) (FailsAtBound at.entry.lines at.entry.rest.now) result }
+    ensures { Answers (λ r. ReadsBound r.0.items r.1.items at.entry.lines at.entry.rest.now)
+        (FailsAtBound at.entry.lines at.entry.rest.now) result }
 {
     let (count, behind) = read_count(alloc, at)?;
     let (cuts, behind) = read_cuts(alloc, behind, count)?;
@@ -112,7 +121,8 @@ fn read_bound(alloc: Global, at: Place<'_>) -> Result<(Vec<Cut>, Vec<TreeNode>),
 
 /// The certificate of an optimum.
 fn read_optimal(alloc: Global, at: Place<'_>) -> Result<Certificate, CertStop>
-    ensures { Answers (ReadsBody Verdict.Optimal at.entry.rest.now) (FailsBody Verdict.Optimal at.entry.lines at.entry.rest.now) result }
+    ensures { Answers (ReadsBody Verdict.Optimal at.entry.rest.now)
+        (FailsBody Verdict.Optimal at.entry.lines at.entry.rest.now) result }
 {
     let MasterLine { den, x, behind } = read_master(alloc, at)?;
     let (eta, behind) = read_eta(alloc, behind)?;
@@ -137,7 +147,8 @@ fn read_optimal(alloc: Global, at: Place<'_>) -> Result<Certificate, CertStop>
 
 /// The certificate of a model without feasible points.
 fn read_infeasible(alloc: Global, at: Place<'_>) -> Result<Certificate, CertStop>
-    ensures { Answers (ReadsBody Verdict.Infeasible at.entry.rest.now) (FailsBody Verdict.Infeasible at.entry.lines at.entry.rest.now) result }
+    ensures { Answers (ReadsBody Verdict.Infeasible at.entry.rest.now)
+        (FailsBody Verdict.Infeasible at.entry.lines at.entry.rest.now) result }
 {
     let (cuts, tree) = read_bound(alloc, at)?;
     Ok(Certificate {
@@ -152,7 +163,8 @@ fn read_infeasible(alloc: Global, at: Place<'_>) -> Result<Certificate, CertStop
 
 /// The certificate of an unbounded model.
 fn read_unbounded(alloc: Global, at: Place<'_>) -> Result<Certificate, CertStop>
-    ensures { Answers (ReadsBody Verdict.Unbounded at.entry.rest.now) (FailsBody Verdict.Unbounded at.entry.lines at.entry.rest.now) result }
+    ensures { Answers (ReadsBody Verdict.Unbounded at.entry.rest.now)
+        (FailsBody Verdict.Unbounded at.entry.lines at.entry.rest.now) result }
 {
     let MasterLine { den, x, behind } = read_master(alloc, at)?;
     let Directed {
@@ -181,7 +193,8 @@ pub(crate) fn read_body(
     at: Place<'_>,
     verdict: Verdict,
 ) -> Result<Certificate, CertStop>
-    ensures { Answers (ReadsBody verdict at.entry.rest.now) (FailsBody verdict at.entry.lines at.entry.rest.now) result }
+    ensures { Answers (ReadsBody verdict at.entry.rest.now)
+        (FailsBody verdict at.entry.lines at.entry.rest.now) result }
 {
     match verdict {
         Verdict::Optimal => read_optimal(alloc, at),

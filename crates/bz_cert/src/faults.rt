@@ -1,5 +1,6 @@
 //! What is wrong with a text that is no certificate's.
 ghost use Rattle.std.specs.Prelude.{◌≡◌};
+ghost use Rattle.bz_cert.specs.CertKinds.{cert_name, cert_number};
 ghost use Rattle.bz_cert.specs.declared.faults.CertStop.{CertStop};
 
 use std::alloc::{AllocError, AllocFailed};
@@ -23,6 +24,40 @@ pub enum CertKind {
     End,
     /// There are more than 65,535 cuts, or more nodes of the tree.
     Limit,
+}
+
+impl CertKind {
+    /// The number of the kind.
+    pub fn number(self) -> u32
+        ensures { result ≡ cert_number self }
+    {
+        match self {
+            CertKind::Head => 1,
+            CertKind::Verdict => 2,
+            CertKind::Line => 3,
+            CertKind::Number => 4,
+            CertKind::Order => 5,
+            CertKind::Tree => 6,
+            CertKind::End => 7,
+            CertKind::Limit => 8,
+        }
+    }
+
+    /// The name of the kind.
+    pub fn name(self) -> &'static [u8]
+        ensures { result.now ≡ cert_name self }
+    {
+        match self {
+            CertKind::Head => b"Head",
+            CertKind::Verdict => b"Verdict",
+            CertKind::Line => b"Line",
+            CertKind::Number => b"Number",
+            CertKind::Order => b"Order",
+            CertKind::Tree => b"Tree",
+            CertKind::End => b"End",
+            CertKind::Limit => b"Limit",
+        }
+    }
 }
 
 /// The first thing wrong with a text.

@@ -29,7 +29,8 @@ fn verdict_of(line: &[u8]) -> Option<Verdict>
 
 /// What is left behind the first line.
 fn read_first(text: &[u8]) -> Result<&[u8], CertStop>
-    ensures { Answers (λ rest. (text.now ≡ first_line ++ 10 ∷ rest.now) × (rest.now ≢ [])) (IsCertFault text.now) result }
+    ensures { Answers (λ rest. (text.now ≡ first_line ++ 10 ∷ rest.now) × (rest.now ≢ []))
+        (IsCertFault text.now) result }
 {
     if text.is_empty() {
         return Err(fault(0, CertKind::End));
@@ -50,7 +51,8 @@ fn read_first(text: &[u8]) -> Result<&[u8], CertStop>
 /// The verdict, and the place behind its line.
 pub(crate) fn read_head(text: &[u8]) -> Result<(Verdict, Place<'_>), CertStop>
     requires { length text.now < 2 ^ 32 - 1 }
-    ensures { Answers (λ r. (text.now ≡ head_bytes r.0 ++ r.1.rest.now) × (r.1.lines ≡ 2)) (IsCertFault text.now) result }
+    ensures { Answers (λ r. (text.now ≡ head_bytes r.0 ++ r.1.rest.now) × (r.1.lines ≡ 2))
+        (IsCertFault text.now) result }
 {
     let rest = read_first(text)?;
     let (line, from_feed) = cut_at(rest, b'\n');

@@ -28,7 +28,10 @@ pub(crate) fn read_blocks<'a>(
     at: Place<'a>,
     last: Word,
 ) -> Result<Blocks<'a>, CertStop>
-    ensures { Answers (λ r. ReadsBlocks last r.parts.items at.entry.lines at.entry.rest.now r.behind.lines r.behind.rest.now r.last.items r.from_feed.now) (FailsAtBlocks last at.entry.lines at.entry.rest.now) result }
+    ensures { Answers
+        (λ r. ReadsBlocks last r.parts.items at.entry.lines at.entry.rest.now
+        r.behind.lines r.behind.rest.now r.last.items r.from_feed.now)
+        (FailsAtBlocks last at.entry.lines at.entry.rest.now) result }
 {
     let mut parts = Vec::new(alloc);
     let mut behind = at;
@@ -56,7 +59,8 @@ pub(crate) fn read_cuts<'a>(
     at: Place<'a>,
     count: u32,
 ) -> Result<(Vec<Cut>, Place<'a>), CertStop>
-    ensures { Answers (λ r. ReadsCuts count r.0.items at.entry.lines at.entry.rest.now r.1.lines r.1.rest.now) (FailsAtCuts count at.entry.lines at.entry.rest.now) result }
+    ensures { Answers (λ r. ReadsCuts count r.0.items at.entry.lines at.entry.rest.now r.1.lines r.1.rest.now)
+        (FailsAtCuts count at.entry.lines at.entry.rest.now) result }
 {
     let mut cuts = Vec::new(alloc);
     let mut behind = at;
@@ -85,7 +89,8 @@ pub(crate) fn read_tree<'a>(
     alloc: Global,
     at: Place<'a>,
 ) -> Result<(Vec<TreeNode>, Place<'a>), CertStop>
-    ensures { Answers (λ r. ReadsTree r.0.items at.entry.lines at.entry.rest.now r.1.lines r.1.rest.now) (FailsAtTree at.entry.lines at.entry.rest.now) result }
+    ensures { Answers (λ r. ReadsTree r.0.items at.entry.lines at.entry.rest.now r.1.lines r.1.rest.now)
+        (FailsAtTree at.entry.lines at.entry.rest.now) result }
 {
     let mut nodes = Vec::new(alloc);
     let mut behind = at;

@@ -3,7 +3,7 @@ ghost use Rattle.std.specs.Prelude.{ℤ, List, [], ◌≡◌, ◌∷◌, ◌+◌
 ghost use Rattle.std.specs.List.{AllByRecursion};
 ghost use Rattle.bz_algebra.specs.Numbers.{IsNarrow};
 ghost use Rattle.bz_cert.specs.CertFaults.{IsIndex, Standing, indexes_of};
-ghost use Rattle.bz_cert.specs.CertReading.{Answers, AreNumbersOf, NumbersFail, Only};
+ghost use Rattle.bz_cert.specs.CertReading.{Answers, AreNumbersOf, FailAnywhere, FailAsBlock, FailBehind, FailInRoom, IsNoNumbersOf, Only};
 ghost use Rattle.bz_cert.specs.CertText.{IsWritableCut, IsWritableNode, cut_line, line_with, node_line};
 
 use crate::faults::{CertKind, CertStop, fault};
@@ -26,7 +26,8 @@ pub(crate) fn numbers_of(
     word: Word,
     behind: &[u8],
 ) -> Result<Vec<i128>, CertStop>
-    ensures { Answers (λ numbers. AreNumbersOf word behind.now numbers.items) (Only line CertKind.Number ((numbers : List ℤ) → AreNumbersOf word behind.now numbers → ⊥)) result }
+    ensures { Answers (λ numbers. AreNumbersOf word behind.now numbers.items)
+        (Only line CertKind.Number (IsNoNumbersOf word behind.now)) result }
 {
     let numbers = numbers_in(alloc, line, behind)?;
     if has_indexes(word, numbers.as_slice()) {
@@ -42,7 +43,8 @@ pub(crate) fn master_of(
     line: u32,
     numbers: &[i128],
 ) -> Result<(i128, Vec<i128>), CertStop>
-    ensures { Answers (λ master. numbers.now ≡ master.0 ∷ master.1.items) (λ number kind. (before : Standing) → NumbersFail line before Word.Master numbers.now number kind) result }
+    ensures { Answers (λ master. numbers.now ≡ master.0 ∷ master.1.items)
+        (FailAnywhere line Word.Master numbers.now) result }
 {
     let [den, x @ ..] = numbers else {
         return Err(fault(line, CertKind::Line));
@@ -60,7 +62,8 @@ pub(crate) fn block_of(
 ) -> Result<BlockPart, CertStop>
     requires indexes { AllByRecursion IsIndex (indexes_of Word.Block numbers.now) }
     requires narrow { AllByRecursion IsNarrow numbers.now }
-    ensures { Answers (λ part. numbers.now ≡ pos block ∷ part.times ∷ part.y) (λ number kind. (before : Standing) → suc before.blocks ≡ block → NumbersFail line before Word.Block numbers.now number kind) result }
+    ensures { Answers (λ part. numbers.now ≡ pos block ∷ part.times ∷ part.y)
+        (FailAsBlock line block numbers.now) result }
 {
     let [number, times, y @ ..] = numbers else {
         return Err(fault(line, CertKind::Line));
@@ -77,7 +80,7 @@ pub(crate) fn block_of(
 
 /// The value, alone on its line.
 pub(crate) fn value_of(line: u32, numbers: &[i128]) -> Result<i128, CertStop>
-    ensures { Answers (λ value. numbers.now ≡ value ∷ []) (λ number kind. (before : Standing) → NumbersFail line before Word.Value numbers.now number kind) result }
+    ensures { Answers (λ value. numbers.now ≡ value ∷ []) (FailAnywhere line Word.Value numbers.now) result }
 {
     match numbers {
         [value] => Ok(*value),
@@ -88,7 +91,8 @@ pub(crate) fn value_of(line: u32, numbers: &[i128]) -> Result<i128, CertStop>
 /// How many cuts there are, alone on its line.
 pub(crate) fn count_of(line: u32, numbers: &[i128]) -> Result<u32, CertStop>
     requires { AllByRecursion IsIndex (indexes_of Word.Cuts numbers.now) }
-    ensures { Answers (λ count. (numbers.now ≡ pos count ∷ []) × (count ≤ 65535)) (λ number kind. (before : Standing) → NumbersFail line before Word.Cuts numbers.now number kind) result }
+    ensures { Answers (λ count. (numbers.now ≡ pos count ∷ []) × (count ≤ 65535))
+        (FailAnywhere line Word.Cuts numbers.now) result }
 {
     let [count, rest @ ..] = numbers else {
         return Err(fault(line, CertKind::Line));
@@ -106,7 +110,8 @@ pub(crate) fn count_of(line: u32, numbers: &[i128]) -> Result<u32, CertStop>
 pub(crate) fn cut_of(alloc: Global, line: u32, numbers: &[i128]) -> Result<Cut, CertStop>
     requires indexes { AllByRecursion IsIndex (indexes_of Word.Cut numbers.now) }
     requires narrow { AllByRecursion IsNarrow numbers.now }
-    ensures { Answers (λ cut. (numbers.now ≡ (cut_line cut).numbers) × IsWritableCut cut) (λ number kind. (before : Standing) → NumbersFail line before Word.Cut numbers.now number kind) result }
+    ensures { Answers (λ cut. (numbers.now ≡ (cut_line cut).numbers) × IsWritableCut cut)
+        (FailAnywhere line Word.Cut numbers.now) result }
 {
     let [block, p0, beta, gcd, lists @ ..] = numbers else {
         return Err(fault(line, CertKind::Line));
@@ -131,7 +136,8 @@ pub(crate) fn cut_of(alloc: Global, line: u32, numbers: &[i128]) -> Result<Cut, 
 /// The split of a line.
 fn split_of(line: u32, numbers: &[i128]) -> Result<TreeNode, CertStop>
     requires { AllByRecursion IsIndex (indexes_of Word.Split numbers.now) }
-    ensures { Answers (λ node. (node_line node ≡ line_with Word.Split numbers.now) × IsWritableNode node) (λ number kind. (before : Standing) → before.splits + before.leaves ≤ 65534 → NumbersFail line before Word.Split numbers.now number kind) result }
+    ensures { Answers (λ node. (node_line node ≡ line_with Word.Split numbers.now) × IsWritableNode node)
+        (FailInRoom line Word.Split numbers.now) result }
 {
     match numbers {
         [position, left, right] => Ok(TreeNode::Split {
@@ -147,7 +153,8 @@ fn split_of(line: u32, numbers: &[i128]) -> Result<TreeNode, CertStop>
 fn leaf_of(alloc: Global, line: u32, numbers: &[i128]) -> Result<TreeNode, CertStop>
     requires indexes { AllByRecursion IsIndex (indexes_of Word.Leaf numbers.now) }
     requires narrow { AllByRecursion IsNarrow numbers.now }
-    ensures { Answers (λ node. (node_line node ≡ line_with Word.Leaf numbers.now) × IsWritableNode node) (λ number kind. (before : Standing) → before.splits + before.leaves ≤ 65534 → NumbersFail line before Word.Leaf numbers.now number kind) result }
+    ensures { Answers (λ node. (node_line node ≡ line_with Word.Leaf numbers.now) × IsWritableNode node)
+        (FailInRoom line Word.Leaf numbers.now) result }
 {
     let [delta, bound, list @ ..] = numbers else {
         return Err(fault(line, CertKind::Line));
@@ -180,7 +187,8 @@ pub(crate) fn node_of(
     requires word { (word ≡ Word.Split) ⊎ (word ≡ Word.Leaf) }
     requires indexes { AllByRecursion IsIndex (indexes_of word numbers.now) }
     requires narrow { AllByRecursion IsNarrow numbers.now }
-    ensures { Answers (λ node. (node_line node ≡ line_with word numbers.now) × IsWritableNode node × (nodes ≤ 65534)) (λ number kind. (before : Standing) → before.splits + before.leaves ≡ nodes → NumbersFail line before word numbers.now number kind) result }
+    ensures { Answers (λ node. (node_line node ≡ line_with word numbers.now) × IsWritableNode node × (nodes ≤ 65534))
+        (FailBehind nodes line word numbers.now) result }
 {
     if nodes >= MAX {
         return Err(fault(line, CertKind::Limit));
@@ -193,7 +201,7 @@ pub(crate) fn node_of(
 
 /// Nothing, as on the last line.
 pub(crate) fn nothing_of(line: u32, numbers: &[i128]) -> Result<(), CertStop>
-    ensures { Answers (λ nothing. numbers.now ≡ []) (λ number kind. (before : Standing) → NumbersFail line before Word.End numbers.now number kind) result }
+    ensures { Answers (λ nothing. numbers.now ≡ []) (FailAnywhere line Word.End numbers.now) result }
 {
     if numbers.is_empty() {
         Ok(())

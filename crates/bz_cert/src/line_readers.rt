@@ -27,7 +27,10 @@ pub(crate) struct MasterLine<'a> {
 
 /// The master's denominator and numerators.
 pub(crate) fn read_master<'a>(alloc: Global, at: Place<'a>) -> Result<MasterLine<'a>, CertStop>
-    ensures { Answers (λ master. ReadsLine at.entry.lines at.entry.rest.now (line_with Word.Master (master.den ∷ master.x.items)) master.behind.lines master.behind.rest.now) (FailsAwaiting (Word.Master ∷ []) at.entry.lines at.entry.rest.now) result }
+    ensures { Answers
+        (λ master. ReadsLine at.entry.lines at.entry.rest.now
+        (line_with Word.Master (master.den ∷ master.x.items)) master.behind.lines master.behind.rest.now)
+        (FailsAwaiting (Word.Master ∷ []) at.entry.lines at.entry.rest.now) result }
 {
     let (numbers, from_feed) = next_line_of(alloc, at, Word::Master)?;
     let (den, x) = master_of(alloc, at.lines + 1, numbers.as_slice())?;
@@ -37,7 +40,9 @@ pub(crate) fn read_master<'a>(alloc: Global, at: Place<'a>) -> Result<MasterLine
 
 /// The etas of an optimum.
 pub(crate) fn read_eta<'a>(alloc: Global, at: Place<'a>) -> Result<(Vec<i128>, Place<'a>), CertStop>
-    ensures { Answers (λ r. ReadsLine at.entry.lines at.entry.rest.now (line_with Word.Eta r.0.items) r.1.lines r.1.rest.now) (FailsAwaiting (Word.Eta ∷ []) at.entry.lines at.entry.rest.now) result }
+    ensures { Answers
+        (λ r. ReadsLine at.entry.lines at.entry.rest.now (line_with Word.Eta r.0.items) r.1.lines r.1.rest.now)
+        (FailsAwaiting (Word.Eta ∷ []) at.entry.lines at.entry.rest.now) result }
 {
     let (eta, from_feed) = next_line_of(alloc, at, Word::Eta)?;
     let behind = next_place(at, from_feed)?;
@@ -59,7 +64,8 @@ pub(crate) fn read_block<'a>(
     last: Word,
     block: u32,
 ) -> Result<BlockLine<'a>, CertStop>
-    ensures { Answers (BlockLineIs last block at.entry.lines at.entry.rest.now) (FailsAtBlock last block at.entry.lines at.entry.rest.now) result }
+    ensures { Answers (BlockLineIs last block at.entry.lines at.entry.rest.now)
+        (FailsAtBlock last block at.entry.lines at.entry.rest.now) result }
 {
     let NumberLine {
         word,
@@ -76,7 +82,10 @@ pub(crate) fn read_block<'a>(
 
 /// How many cuts there are.
 pub(crate) fn read_count<'a>(alloc: Global, at: Place<'a>) -> Result<(u32, Place<'a>), CertStop>
-    ensures { Answers (λ r. ReadsLine at.entry.lines at.entry.rest.now (line_with Word.Cuts (pos r.0 ∷ [])) r.1.lines r.1.rest.now × (r.0 ≤ 65535)) (FailsAwaiting (Word.Cuts ∷ []) at.entry.lines at.entry.rest.now) result }
+    ensures { Answers
+        (λ r. ReadsLine at.entry.lines at.entry.rest.now (line_with Word.Cuts (pos r.0 ∷ [])) r.1.lines r.1.rest.now
+        × (r.0 ≤ 65535))
+        (FailsAwaiting (Word.Cuts ∷ []) at.entry.lines at.entry.rest.now) result }
 {
     let (numbers, from_feed) = next_line_of(alloc, at, Word::Cuts)?;
     let count = count_of(at.lines + 1, numbers.as_slice())?;
@@ -86,7 +95,9 @@ pub(crate) fn read_count<'a>(alloc: Global, at: Place<'a>) -> Result<(u32, Place
 
 /// The next cut.
 pub(crate) fn read_cut<'a>(alloc: Global, at: Place<'a>) -> Result<(Cut, Place<'a>), CertStop>
-    ensures { Answers (λ r. ReadsLine at.entry.lines at.entry.rest.now (cut_line r.0) r.1.lines r.1.rest.now × IsWritableCut r.0) (FailsAwaiting (Word.Cut ∷ []) at.entry.lines at.entry.rest.now) result }
+    ensures { Answers
+        (λ r. ReadsLine at.entry.lines at.entry.rest.now (cut_line r.0) r.1.lines r.1.rest.now × IsWritableCut r.0)
+        (FailsAwaiting (Word.Cut ∷ []) at.entry.lines at.entry.rest.now) result }
 {
     let (numbers, from_feed) = next_line_of(alloc, at, Word::Cut)?;
     let cut = cut_of(alloc, at.lines + 1, numbers.as_slice())?;
@@ -100,7 +111,10 @@ pub(crate) fn read_node<'a>(
     at: Place<'a>,
     nodes: usize,
 ) -> Result<(TreeNode, Place<'a>), CertStop>
-    ensures { Answers (λ r. ReadsLine at.entry.lines at.entry.rest.now (node_line r.0) r.1.lines r.1.rest.now × IsWritableNode r.0 × (nodes ≤ 65534)) (FailsAtNode nodes at.entry.lines at.entry.rest.now) result }
+    ensures { Answers
+        (λ r. ReadsLine at.entry.lines at.entry.rest.now (node_line r.0) r.1.lines r.1.rest.now × IsWritableNode r.0
+        × (nodes ≤ 65534))
+        (FailsAtNode nodes at.entry.lines at.entry.rest.now) result }
 {
     let WordLine {
         word,
@@ -122,7 +136,9 @@ pub(crate) fn read_end<'a>(
     at: Place<'a>,
     words: &[Word],
 ) -> Result<Place<'a>, CertStop>
-    ensures { Answers (λ behind. ReadsLine at.entry.lines at.entry.rest.now (line_with Word.End []) behind.lines behind.rest.now) (FailsAtEnd words.now at.entry.lines at.entry.rest.now) result }
+    ensures { Answers
+        (λ behind. ReadsLine at.entry.lines at.entry.rest.now (line_with Word.End []) behind.lines behind.rest.now)
+        (FailsAtEnd words.now at.entry.lines at.entry.rest.now) result }
 {
     let WordLine {
         word,

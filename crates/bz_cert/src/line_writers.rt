@@ -102,7 +102,8 @@ pub(crate) fn write_block(
     number: usize,
     block: &BlockPart,
 ) -> Result<(), AllocError>
-    ensures { OnOk result (Adds out.old.items (line_with Word.Block (pos number ∷ block.now.times ∷ block.now.y) ∷ []) out.new.items) }
+    ensures { OnOk result
+        (Adds out.old.items (line_with Word.Block (pos number ∷ block.now.times ∷ block.now.y) ∷ []) out.new.items) }
 {
     begin_line(out, Word::Block)?;
     write_number(out, number as i128)?;
@@ -113,7 +114,8 @@ pub(crate) fn write_block(
 
 /// Adds the numbers of a cut before its two lists.
 fn write_cut_front(out: &mut Vec<u8>, cut: &Cut) -> Result<(), AllocError>
-    ensures text { OnOk result (AddsNumbers out.old.items (pos cut.now.block ∷ cut.now.p0 ∷ cut.now.beta ∷ cut.now.gcd ∷ []) out.new.items) }
+    ensures text { OnOk result
+        (AddsNumbers out.old.items (pos cut.now.block ∷ cut.now.p0 ∷ cut.now.beta ∷ cut.now.gcd ∷ []) out.new.items) }
     ensures block { cut.now.block < 2 ^ 32 }
 {
     write_pair(out, cut.block, cut.p0)?;
@@ -147,7 +149,8 @@ fn write_leaf(out: &mut Vec<u8>, leaf: &Leaf) -> Result<(), AllocError>
 
 /// Adds the line of a split.
 fn write_split(out: &mut Vec<u8>, position: u32, left: i128, right: i128) -> Result<(), AllocError>
-    ensures text { OnOk result (Adds out.old.items (node_line (TreeNode.Split position left right) ∷ []) out.new.items) }
+    ensures text { OnOk result
+        (Adds out.old.items (node_line (TreeNode.Split position left right) ∷ []) out.new.items) }
     ensures position { position < 2 ^ 32 }
 {
     begin_line(out, Word::Split)?;

@@ -4,7 +4,7 @@ ghost use Rattle.std.specs.List.{AllByRecursion};
 ghost use Rattle.bz_num.specs.Row.{IsSparse};
 ghost use Rattle.bz_cert.specs.declared.faults.CertKind.{CertKind};
 ghost use Rattle.bz_cert.specs.CertFaults.{IsIndex, alternate, behind_list as numbers_behind_list, indexes_of, list_indexes, lists_indexes};
-ghost use Rattle.bz_cert.specs.CertReading.{Answers, AreTwoLists, BeginsWithList, BeginsWithPairs, Only};
+ghost use Rattle.bz_cert.specs.CertReading.{Answers, AreNoTwoLists, AreTwoLists, BeginWithNoList, BeginWithNoPairs, BeginsWithList, BeginsWithPairs, Only};
 
 use crate::faults::{CertKind, CertStop, fault};
 use crate::words::Word;
@@ -166,7 +166,8 @@ pub(crate) struct TwoLists {
 fn take_pair(numbers: &[i128]) -> Option<Pair<'_>>
     ensures pair { IfSome result (λ pair. numbers.now ≡ pos pair.index ∷ pair.number ∷ pair.behind.now) }
     ensures index { IfSome result (λ pair. pair.index < 2 ^ 32) }
-    ensures none { IfNone result ((i : ℕ) (z : ℤ) (behind : List ℤ) → numbers.now ≡ pos i ∷ z ∷ behind → i < 2 ^ 32 → ⊥) }
+    ensures none { IfNone result
+        ((i : ℕ) (z : ℤ) (behind : List ℤ) → numbers.now ≡ pos i ∷ z ∷ behind → i < 2 ^ 32 → ⊥) }
 {
     let [index, number, behind @ ..] = numbers else {
         return None;
@@ -183,7 +184,8 @@ fn take_pair(numbers: &[i128]) -> Option<Pair<'_>>
 
 /// So many pairs in front of the numbers.
 fn take_pairs(alloc: Global, line: u32, count: u32, numbers: &[i128]) -> Result<Pairs<'_>, CertStop>
-    ensures { Answers (λ r. BeginsWithPairs count r.pairs.items numbers.now r.behind.now) (Only line CertKind.Line ((es : List (ℕ × ℤ)) (rest : List ℤ) → BeginsWithPairs count es numbers.now rest → ⊥)) result }
+    ensures { Answers (λ r. BeginsWithPairs count r.pairs.items numbers.now r.behind.now)
+        (Only line CertKind.Line (BeginWithNoPairs count numbers.now)) result }
 {
     let mut pairs = Vec::new(alloc);
     let mut rest = numbers;
@@ -211,7 +213,8 @@ fn take_pairs(alloc: Global, line: u32, count: u32, numbers: &[i128]) -> Result<
 fn take_count(numbers: &[i128]) -> Option<(u32, &[i128])>
     ensures count { IfSome result (λ r. numbers.now ≡ pos r.0 ∷ r.1.now) }
     ensures range { IfSome result (λ r. r.0 < 2 ^ 32) }
-    ensures none { IfNone result ((count : ℕ) (behind : List ℤ) → numbers.now ≡ pos count ∷ behind → count < 2 ^ 32 → ⊥) }
+    ensures none { IfNone result
+        ((count : ℕ) (behind : List ℤ) → numbers.now ≡ pos count ∷ behind → count < 2 ^ 32 → ⊥) }
 {
     let [count, behind @ ..] = numbers else {
         return None;
@@ -224,7 +227,8 @@ fn take_count(numbers: &[i128]) -> Option<(u32, &[i128])>
 
 /// The pairs of a list in front of the numbers, where their count comes first.
 pub(crate) fn take_list(alloc: Global, line: u32, numbers: &[i128]) -> Result<Pairs<'_>, CertStop>
-    ensures { Answers (λ r. BeginsWithList r.pairs.items numbers.now r.behind.now) (Only line CertKind.Line ((es : List (ℕ × ℤ)) (rest : List ℤ) → BeginsWithList es numbers.now rest → ⊥)) result }
+    ensures { Answers (λ r. BeginsWithList r.pairs.items numbers.now r.behind.now)
+        (Only line CertKind.Line (BeginWithNoList numbers.now)) result }
 {
     let Some((count, behind)) = take_count(numbers) else {
         return Err(fault(line, CertKind::Line));
@@ -234,7 +238,8 @@ pub(crate) fn take_list(alloc: Global, line: u32, numbers: &[i128]) -> Result<Pa
 
 /// The pairs of two lists, which are all of the numbers.
 pub(crate) fn two_lists(alloc: Global, line: u32, numbers: &[i128]) -> Result<TwoLists, CertStop>
-    ensures { Answers (λ r. AreTwoLists r.first.items r.second.items numbers.now) (Only line CertKind.Line ((es fs : List (ℕ × ℤ)) → AreTwoLists es fs numbers.now → ⊥)) result }
+    ensures { Answers (λ r. AreTwoLists r.first.items r.second.items numbers.now)
+        (Only line CertKind.Line (AreNoTwoLists numbers.now)) result }
 {
     let first = take_list(alloc, line, numbers)?;
     let second = take_list(alloc, line, first.behind)?;

@@ -69,7 +69,10 @@ fn word_among(field: &[u8], words: &[Word]) -> Option<Word>
 
 /// The first line, whose word is one of these.
 pub(crate) fn next_word<'a>(at: Place<'a>, words: &[Word]) -> Result<WordLine<'a>, CertStop>
-    ensures { Answers (λ line. BeginsWithWord at.entry.rest.now line.word line.behind.now line.from_feed.now × IsIn words.now line.word) (FailsComing words.now at.entry.lines at.entry.rest.now) result }
+    ensures { Answers
+        (λ line. BeginsWithWord at.entry.rest.now line.word line.behind.now line.from_feed.now
+        × IsIn words.now line.word)
+        (FailsComing words.now at.entry.lines at.entry.rest.now) result }
 {
     if at.rest.is_empty() {
         return Err(fault(at.lines, CertKind::End));
@@ -92,7 +95,10 @@ pub(crate) fn next_line<'a>(
     at: Place<'a>,
     words: &[Word],
 ) -> Result<NumberLine<'a>, CertStop>
-    ensures { Answers (λ line. BeginsWithCertLine at.entry.rest.now (line_with line.word line.numbers.items) line.from_feed.now × IsIn words.now line.word) (FailsAwaiting words.now at.entry.lines at.entry.rest.now) result }
+    ensures { Answers
+        (λ line. BeginsWithCertLine at.entry.rest.now (line_with line.word line.numbers.items) line.from_feed.now
+        × IsIn words.now line.word)
+        (FailsAwaiting words.now at.entry.lines at.entry.rest.now) result }
 {
     let WordLine {
         word,
@@ -111,7 +117,8 @@ pub(crate) fn next_line<'a>(
 pub(crate) fn next_place<'a>(at: Place<'a>, from_feed: &'a [u8]) -> Result<Place<'a>, CertStop>
     requires short { length from_feed.now ≤ length at.rest.now }
     requires feed { BeginsWith 10 from_feed.now }
-    ensures { Answers (λ behind. (from_feed.entry.now ≡ 10 ∷ behind.rest.now) × (behind.lines ≡ at.entry.lines + 1)) (Only (at.entry.lines + 1) CertKind.End (from_feed.entry.now ≡ [])) result }
+    ensures { Answers (λ behind. (from_feed.entry.now ≡ 10 ∷ behind.rest.now) × (behind.lines ≡ at.entry.lines + 1))
+        (Only (at.entry.lines + 1) CertKind.End (from_feed.entry.now ≡ [])) result }
 {
     match from_feed {
         [_, rest @ ..] => Ok(Place {
@@ -128,7 +135,8 @@ pub(crate) fn next_line_of<'a>(
     at: Place<'a>,
     word: Word,
 ) -> Result<(Vec<i128>, &'a [u8]), CertStop>
-    ensures { Answers (λ r. BeginsWithCertLine at.entry.rest.now (line_with word r.0.items) r.1.now) (FailsAwaiting (word ∷ []) at.entry.lines at.entry.rest.now) result }
+    ensures { Answers (λ r. BeginsWithCertLine at.entry.rest.now (line_with word r.0.items) r.1.now)
+        (FailsAwaiting (word ∷ []) at.entry.lines at.entry.rest.now) result }
 {
     let NumberLine {
         numbers,

@@ -3,7 +3,7 @@ ghost use Rattle.std.specs.Prelude.{ℕ, ℤ, ◌≡◌, ◌≢◌, ◌==◌, If
 ghost use Rattle.std.specs.List.{AllByRecursion, position_or_len};
 ghost use Rattle.bz_cert.specs.declared.faults.CertKind.{CertKind};
 ghost use Rattle.bz_cert.specs.CertFaults.{BeginsWith};
-ghost use Rattle.bz_cert.specs.CertReading.{Answers, AreNumbers, IsSpelled, Only};
+ghost use Rattle.bz_cert.specs.CertReading.{Answers, AreNumbers, IsNoNumbers, IsSpelled, Only};
 
 use crate::faults::{CertKind, CertStop, fault};
 use itoa::Buffer;
@@ -79,7 +79,8 @@ fn number_of(field: &[u8]) -> Option<i128>
 
 /// The numbers of the rest of a line, each behind one blank.
 pub(crate) fn numbers_in(alloc: Global, line: u32, text: &[u8]) -> Result<Vec<i128>, CertStop>
-    ensures { Answers (λ numbers. AreNumbers text.now numbers.items) (Only line CertKind.Number ((numbers : List ℤ) → AreNumbers text.now numbers → ⊥)) result }
+    ensures { Answers (λ numbers. AreNumbers text.now numbers.items)
+        (Only line CertKind.Number (IsNoNumbers text.now)) result }
 {
     let mut numbers = Vec::new(alloc);
     let mut rest = text;

@@ -61,7 +61,10 @@ fn write_bound(out: &mut Vec<u8>, cuts: &[Cut], tree: &[TreeNode]) -> Result<(),
 
 /// Adds the lines of an optimal point and its value.
 fn write_point(out: &mut Vec<u8>, parts: &Parts, value: i128) -> Result<(), AllocError>
-    ensures { OnOk result (Adds out.old.items (master_line parts.now.master ∷ line_with Word.Eta parts.now.master.eta ∷ (block_lines 1 parts.now.blocks ++ line_with Word.Value (value ∷ []) ∷ [])) out.new.items) }
+    ensures { OnOk result
+        (Adds out.old.items
+        (master_line parts.now.master ∷ line_with Word.Eta parts.now.master.eta ∷
+        (block_lines 1 parts.now.blocks ++ line_with Word.Value (value ∷ []) ∷ [])) out.new.items) }
 {
     write_master(out, &parts.master)?;
     write_line(out, Word::Eta, parts.master.eta.as_slice())?;
@@ -71,7 +74,10 @@ fn write_point(out: &mut Vec<u8>, parts: &Parts, value: i128) -> Result<(), Allo
 
 /// Adds the lines of a point and a direction, and of the end.
 fn write_direction(out: &mut Vec<u8>, parts: &Parts, ray: &[i128]) -> Result<(), AllocError>
-    ensures { OnOk result (Adds out.old.items (master_line parts.now.master ∷ (block_lines 1 parts.now.blocks ++ line_with Word.Ray ray.now ∷ line_with Word.End [] ∷ [])) out.new.items) }
+    ensures { OnOk result
+        (Adds out.old.items
+        (master_line parts.now.master ∷
+        (block_lines 1 parts.now.blocks ++ line_with Word.Ray ray.now ∷ line_with Word.End [] ∷ [])) out.new.items) }
 {
     write_master(out, &parts.master)?;
     write_blocks(out, parts.blocks.as_slice())?;

@@ -32,7 +32,8 @@ use Rattle.bz_judge.specs.RayTests.{ray_tests}
 use Rattle.bz_cert.specs.Fits.{Fits, FitsAs, FitsBound, FitsOptimal, FitsUnbounded}
 use Rattle.bz_tree.specs.TreeFits.{FitsTree}
 use Rattle.bz_cert.specs.Passing.{Passes, PassesAs}
-use Rattle.bz_judge.proofs.PointsTold.{PointHolds, costs_fit, costs_tested, costs_told, point_fits, point_tested, point_told, ray_cost_fits, ray_rows_fit, ray_tested, ray_told, rows_of_blocks}
+use Rattle.bz_judge.specs.PointHolds.{PointHolds}
+use Rattle.bz_judge.proofs.PointsTold.{costs_fit, costs_tested, costs_told, point_fits, point_tested, point_told, ray_cost_fits, ray_rows_fit, ray_tested, ray_told, rows_of_blocks}
 use Rattle.bz_tree.proofs.OneRoot.{one_root}
 use Rattle.bz_check.proofs.AllTestsTrees.{cuts_fit, cuts_tested, cuts_told, leaves_told, tree_fits, tree_tested, tree_told}
 

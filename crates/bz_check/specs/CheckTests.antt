@@ -1,6 +1,6 @@
 -- The tests of a whole certificate, in their order. A test answers the fault that it stands for; the tests that a sum is
 -- not wide stand where the sum stands.
-use Rattle.std.specs.Prelude.{ℕ, ◌≡◌, ◌+◌, List, [], ◌∷◌, ◌++◌, length, Option, Some, None}
+use Rattle.std.specs.Prelude.{ℕ, ℤ, ◌≡◌, ◌+◌, List, [], ◌∷◌, ◌++◌, length, Option, Some, None}
 use Rattle.std.specs.List.{enumerate_from}
 use Rattle.bz_first.specs.Tests.{IsFirstFault, answered, each_of, test}
 use Rattle.bz_model.specs.declared.Ineq.{Ineq}
@@ -24,7 +24,7 @@ use Rattle.bz_judge.specs.declared.CheckFault.TheVariants as fault
 use Rattle.bz_judge.specs.LeafTests.{leaf_tests}
 use Rattle.bz_judge.specs.PointTests.{Tests, point_tests}
 use Rattle.bz_judge.specs.RayTests.{ray_tests}
-use Rattle.bz_judge.specs.ValueTests.{cost_tests, value_tests}
+use Rattle.bz_judge.specs.ValueTests.{costs_tests, value_tests}
 use Rattle.bz_judge.specs.WideLists.{cut_sums}
 
 -- ---- the cuts
@@ -33,38 +33,61 @@ abbrev pub fault_of_cut : ℕ → CutFault → CheckFault
 fault_of_cut i of_cut.Invalid = fault.Cut i
 fault_of_cut i of_cut.Wide = fault.Wide cut_sums i
 
+-- a cut by its number, and all cuts
+abbrev pub numbered_cut_tests : Model → List ℕ → ℕ × Cut → Tests
+numbered_cut_tests m part e = answered (fault_of_cut e.0) (cut_tests m part e.1)
+
 abbrev pub cuts_tests : Model → List ℕ → List Cut → Tests
-cuts_tests m part cuts = each_of (λ e. answered (fault_of_cut e.0) (cut_tests m part e.1)) (enumerate_from 0 cuts)
+cuts_tests m part cuts = each_of (numbered_cut_tests m part) (enumerate_from 0 cuts)
 
 -- ---- the tree
 -- the leaf at a node holds over its sides, and is as `Bounds` says
 abbrev pub tip_tests : Model → List ℕ → (Leaf → Type 0) → List Ineq → ℕ → Leaf → Tests
 tip_tests m part Bounds sides node leaf = leaf_tests m part sides node leaf ++ test (fault.Leaf node) (Bounds leaf) ∷ []
 
+-- the split at a node is one of an integer column, into two sides that meet
+abbrev pub split_tests : Model → List ℕ → ℕ → ℕ → ℤ → ℤ → Tests
+split_tests m part node position left right =
+    test (fault.Cover node) (IsSplitOf m part (integer_at m part position) position left right) ∷ []
+
 -- A tree over its box, the first of its nodes being node `node`: a split, and then its two sides in their boxes.
 abbrev pub tree_tests : Model → List ℕ → List Cut → (Leaf → Type 0) → Box → ℕ → Tree → Tests
 tree_tests m part cuts Bounds box node (Tree.tip leaf) = tip_tests m part Bounds (sides_of m part box cuts) node leaf
 tree_tests m part cuts Bounds box node (Tree.fork position left right below above) =
-    test (fault.Cover node) (IsSplitOf m part (integer_at m part position) position left right)
-    ∷ tree_tests m part cuts Bounds (with_upper (integer_at m part position) left box) (node + 1) below
-    ++ tree_tests m part cuts Bounds (with_lower (integer_at m part position) right box) (node + 1 + length (preorder below)) above
+    split_tests m part node position left right
+    ++ tree_tests m part cuts Bounds (with_upper (integer_at m part position) left box) (node + 1) below
+    ++ tree_tests m part cuts Bounds (with_lower (integer_at m part position) right box)
+    (node + 1 + length (preorder below)) above
 
 -- ---- the whole certificate, over the box of the whole model and the tree of its nodes
-abbrev pub optimal_tests : Model → List ℕ → Box → Tree → Parts → Certificate → Tests
-optimal_tests m part root tree parts c =
+-- the parts are a feasible point, their blocks cost at most their etas, and the value is the point's
+abbrev pub value_of_point_tests : Model → List ℕ → Box → Parts → ℤ → Tests
+value_of_point_tests m part root parts value =
     test fault.Shape (HasShape m part parts)
     ∷ point_tests m part root parts
-    ++ each_of (cost_tests m part parts.master) (enumerate_from 1 parts.blocks)
-    ++ value_tests m part parts.master c.value
+    ++ costs_tests m part parts.master parts.blocks
+    ++ value_tests m part parts.master value
+
+-- the cuts are valid, and the tree holds over the box, each leaf as `Bounds` says
+abbrev pub bound_tests : Model → List ℕ → List Cut → (Leaf → Type 0) → Box → Tree → Tests
+bound_tests m part cuts Bounds root tree = cuts_tests m part cuts ++ tree_tests m part cuts Bounds root 0 tree
+
+abbrev pub optimal_tests : Model → List ℕ → Box → Tree → Parts → Certificate → Tests
+optimal_tests m part root tree parts c =
+    value_of_point_tests m part root parts c.value
     ++ cuts_tests m part c.cuts
     ++ tree_tests m part c.cuts (Reaches c.value parts.master.den) root 0 tree
 
 abbrev pub infeasible_tests : Model → List ℕ → Box → Tree → Certificate → Tests
-infeasible_tests m part root tree c = cuts_tests m part c.cuts ++ tree_tests m part c.cuts IsEmpty root 0 tree
+infeasible_tests m part root tree c = bound_tests m part c.cuts IsEmpty root tree
+
+-- the lists of a point and a direction fit the model's parts
+abbrev pub HasRayShape : Model → List ℕ → Parts → List ℤ → Type 0
+HasRayShape m part parts ray = HasPointShape m part parts × (length ray ≡ length m.columns)
 
 abbrev pub unbounded_tests : Model → List ℕ → Box → Parts → Certificate → Tests
 unbounded_tests m part root parts c =
-    test fault.Shape (HasPointShape m part parts × (length c.ray ≡ length m.columns))
+    test fault.Shape (HasRayShape m part parts c.ray)
     ∷ point_tests m part root parts
     ++ ray_tests m c.ray
 

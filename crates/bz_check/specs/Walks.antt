@@ -1,6 +1,6 @@
 -- The walk through a tree: the box of the next node, and what is still to come of the splits that are open.
-use Rattle.std.specs.Prelude.{ℕ, ℤ, ◌≡◌, ◌+◌, ◌<◌, ◌⊎◌, List, [], ◌∷◌, ◌++◌, length, reverse, Result, Ok, Err}
-use Rattle.std.specs.List.{AllByRecursion, flat_map}
+use Rattle.std.specs.Prelude.{ℕ, ℤ, ◌≡◌, ◌+◌, ◌<◌, ◌⊎◌, ◌==◌, List, [], ◌∷◌, ◌++◌, length, reverse, Result, Ok, Err}
+use Rattle.std.specs.List.{AllByRecursion, flat_map, position_or_len}
 use Rattle.bz_algebra.specs.Numbers.{IsNarrow}
 use Rattle.bz_model.specs.declared.Model.{Model}
 use Rattle.bz_model.specs.Points.{coordinate}
@@ -16,7 +16,11 @@ use Rattle.bz_check.specs.declared.open_splits.Frame.{Frame}
 use Rattle.bz_check.specs.declared.open_splits.Frame.TheVariants as side
 use Rattle.bz_check.specs.declared.open_splits.Walk.{Walk}
 use Rattle.bz_judge.specs.PointTests.{Tests}
-use Rattle.bz_check.specs.CheckTests.{tree_tests}
+use Rattle.bz_tree.specs.Integers.{positions_of}
+use Rattle.bz_tree.specs.Leaves.{sides_of}
+use Rattle.bz_check.specs.declared.trial.Trial.{Trial}
+use Rattle.bz_check.specs.TreeGoals.{bounds_of}
+use Rattle.bz_check.specs.CheckTests.{tip_tests, tree_tests}
 
 -- the box of the next node
 abbrev pub box_in : Walk → Box
@@ -83,7 +87,9 @@ pub record Leads (some whole : Tests) : Type 0 where
 
 -- The nodes that are left are those of trees over the box and over the boxes that are still to come, and their tests tell
 -- what those of the whole tree over its root do. Behind the last node there are none.
-pub record Stands (m : Model) (part : List ℕ) (cuts : List Cut) (Bounds : Leaf → Type 0) (root : Box) (tree : Tree) (node : ℕ) (box : Box) (frames : List Frame) (rest : List TreeNode) : Type 0 where
+pub record Stands
+    (m : Model) (part : List ℕ) (cuts : List Cut) (Bounds : Leaf → Type 0) (root : Box) (tree : Tree)
+    (node : ℕ) (box : Box) (frames : List Frame) (rest : List TreeNode) : Type 0 where
   pub boxes : List Box
   pub are_boxes : (boxes ≡ []) ⊎ (boxes ≡ box ∷ pending frames box)
   pub trees : List Tree
@@ -92,8 +98,33 @@ pub record Stands (m : Model) (part : List ℕ) (cuts : List Cut) (Bounds : Leaf
   pub leads : Leads (forest_tests m part cuts Bounds node boxes trees) (tree_tests m part cuts Bounds root 0 tree)
 
 -- A node is tested, and it is gone on to the next: the walk stands there, or a fault is the first of the whole tree.
-abbrev pub Visits : Model → List ℕ → List Cut → (Leaf → Type 0) → Box → Tree → ℕ → Walk → List TreeNode → Result (Unit {0}) CheckFault → Type 0
+abbrev pub Visits :
+    Model → List ℕ → List Cut → (Leaf → Type 0) → Box → Tree →
+    ℕ → Walk → List TreeNode → Result (Unit {0}) CheckFault → Type 0
 Visits m part cuts Bounds root tree node new rest (Ok _) =
     Stands m part cuts Bounds root tree (node + 1) (box_in new) (open_in new) rest
 Visits m part cuts Bounds root tree node new rest (Err f) =
     (f ≡ fault.OutOfMemory) ⊎ IsFirstFault (tree_tests m part cuts Bounds root 0 tree) f
+
+-- the place of the integer column at a position, as many as there are where none stands there
+abbrev pub place_of : List ℕ → ℕ → ℕ
+place_of positions position = position_or_len (λ p. p == position) positions
+
+-- what is so of each model whose integer columns stand at these positions
+abbrev pub OfPositions : List ℕ → (Model → List ℕ → Type 0) → Type 0
+OfPositions positions P = (m : Model) (part : List ℕ) → positions ≡ positions_of m part → P m part
+
+-- ---- what nodes are tested against
+-- the tests of a leaf at a node, over the box that the walk has come to
+abbrev pub here_tests : Trial → Walk → ℕ → Leaf → Tests
+here_tests t walk node leaf =
+    tip_tests t.split.now.model t.split.now.part (bounds_of t.goal)
+    (sides_of t.split.now.model t.split.now.part (box_in walk) t.cuts.now) node leaf
+
+-- Wherever the walk stands in whatever tree, the node is tested, and it is gone on to the next.
+abbrev pub VisitsNode : Trial → ℕ → TreeNode → Walk → Walk → Result (Unit {0}) CheckFault → Type 0
+VisitsNode t node entry old new result =
+    (root : Box) (tree : Tree) (rest : List TreeNode) →
+    Stands t.split.now.model t.split.now.part t.cuts.now (bounds_of t.goal) root tree
+    node (box_in old) (open_in old) (entry ∷ rest) →
+    Visits t.split.now.model t.split.now.part t.cuts.now (bounds_of t.goal) root tree node new rest result

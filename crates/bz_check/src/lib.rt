@@ -10,6 +10,7 @@ mod open_splits;
 mod shape;
 mod tree_goals;
 mod tree_walk;
+mod trial;
 mod whole;
 
 pub use bz_judge::CheckFault;

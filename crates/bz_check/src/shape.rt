@@ -1,9 +1,10 @@
 //! Whether the lists of a certificate's point fit the split.
-ghost use Rattle.std.specs.Prelude.{◌≡◌, ◌↔◌, ◌≤◌, pos, ◌<ℤ◌, [], ◌∷◌, IsTrue, length};
+ghost use Rattle.std.specs.Prelude.{◌≡◌, ◌↔◌, ◌≤◌, [], ◌∷◌, IsTrue, length};
 ghost use Rattle.std.specs.List.{AllByRecursion, enumerate_from};
-ghost use Rattle.bz_model.specs.Parting.{blocks_of, width_of};
+ghost use Rattle.bz_model.specs.Parting.{blocks_of};
 ghost use Rattle.bz_first.specs.Tests.{Judges, test};
 ghost use Rattle.bz_model.specs.PartPoints.{HasBlockShape, HasMasterShape, HasPointShape, HasShape};
+ghost use Rattle.bz_check.specs.CheckTests.{HasRayShape};
 ghost use Rattle.bz_judge.specs.declared.CheckFault.TheVariants.{Shape};
 
 use bz_judge::CheckFault;
@@ -69,7 +70,7 @@ pub fn judge_shape(split: &Split, parts: &Parts) -> Result<(), CheckFault>
 
 /// Tests that the lists of a point and the direction fit the split.
 pub fn judge_ray_shape(split: &Split, parts: &Parts, ray: &[i128]) -> Result<(), CheckFault>
-    ensures { Judges (test Shape (HasPointShape split.now.model split.now.part parts.now × (length ray.now ≡ length split.now.model.columns)) ∷ []) result }
+    ensures { Judges (test Shape (HasRayShape split.now.model split.now.part parts.now ray.now) ∷ []) result }
 {
     if has_point_shape(split, parts) && ray.len() == split.model().columns.as_slice().len() {
         Ok(())

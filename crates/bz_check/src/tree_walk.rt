@@ -1,24 +1,20 @@
 //! Whether a tree of branch and bound holds over the box of the whole model.
-ghost use Rattle.std.specs.Prelude.{◌≡◌, ◌↔◌, ◌<◌, ◌≤◌, ◌==◌, ◌+ℤ◌, ◌∷◌, [], ℕ, List, pos, length, IfOk, IsTrue};
-ghost use Rattle.std.specs.List.{AllByRecursion, position_or_len};
+ghost use Rattle.std.specs.Prelude.{◌≡◌, ◌↔◌, ◌<◌, ◌≤◌, ◌+ℤ◌, pos, length, IfOk, IsTrue};
+ghost use Rattle.std.specs.List.{AllByRecursion};
 ghost use Rattle.bz_algebra.specs.Numbers.{IsNarrow};
-ghost use Rattle.bz_model.specs.declared.Model.{Model};
-ghost use Rattle.bz_first.specs.Tests.{Judges, JudgesUnless, test};
-ghost use Rattle.bz_tree.specs.declared.TreeNode.{TreeNode};
-ghost use Rattle.bz_tree.specs.Boxes.{Box, IsRootBox};
+ghost use Rattle.bz_first.specs.Tests.{Judges};
+ghost use Rattle.bz_tree.specs.Boxes.{IsRootBox};
 ghost use Rattle.bz_tree.specs.Ends.{box_of};
-ghost use Rattle.bz_tree.specs.Leaves.{sides_of};
-ghost use Rattle.bz_tree.specs.Trees.{IsSplitOf, IsTreeOf, Tree};
 ghost use Rattle.bz_cert.specs.Shapes.{IsNarrowNode};
-ghost use Rattle.bz_judge.specs.declared.CheckFault.TheVariants as fault;
-ghost use Rattle.bz_tree.specs.Integers.{integer_at, positions_of};
-ghost use Rattle.bz_check.specs.CheckTests.{tip_tests};
-ghost use Rattle.bz_check.specs.CheckTests.{tree_tests};
+ghost use Rattle.bz_tree.specs.Integers.{positions_of};
+ghost use Rattle.bz_check.specs.CheckTests.{split_tests, tree_tests};
+ghost use Rattle.bz_check.specs.Checking.{JudgesInMemory, JudgesTree};
 ghost use Rattle.bz_check.specs.TreeGoals.{HasPositiveDen, bounds_of};
-ghost use Rattle.bz_check.specs.Walks.{Enters, GoesOn, IsWalk, Stands, Visits, box_in, open_in};
+ghost use Rattle.bz_check.specs.Walks.{Enters, GoesOn, IsWalk, OfPositions, VisitsNode, here_tests, place_of};
 
 use crate::open_splits::{Walk, enter, go_on};
 use crate::tree_goals::{Goal, judge_goal};
+use crate::trial::Trial;
 use bz_cut::Cut;
 use bz_judge::{CheckFault, judge_leaf};
 use bz_model::Split;
@@ -40,8 +36,8 @@ fn judge_split(
     left: i128,
     right: i128,
 ) -> Result<usize, CheckFault>
-    ensures judges { (m : Model) (part : List ℕ) → positions.now ≡ positions_of m part → Judges (test (fault.Cover node) (IsSplitOf m part (integer_at m part position) position left right) ∷ []) result }
-    ensures place { IfOk result (λ place. place ≡ position_or_len (λ p. p == position) positions.now) }
+    ensures judges { OfPositions positions.now (λ m part. Judges (split_tests m part node position left right) result) }
+    ensures place { IfOk result (λ place. place ≡ place_of positions.now position) }
     ensures within { IfOk result (λ place. place < length positions.now) }
 {
     if !is_next(left, right) {
@@ -61,8 +57,9 @@ fn visit_split(
 ) -> Result<(), CheckFault>
     requires walk { IsWalk (length positions.now) walk.old }
     requires narrow { IsNarrow right }
-    ensures judges { (m : Model) (part : List ℕ) → positions.now ≡ positions_of m part → JudgesUnless fault.OutOfMemory (test (fault.Cover node) (IsSplitOf m part (integer_at m part position) position left right) ∷ []) result }
-    ensures entered { IfOk result (λ _. Enters (position_or_len (λ p. p == position) positions.now) left right walk.old walk.new) }
+    ensures judges { OfPositions positions.now (λ m part.
+        JudgesInMemory (split_tests m part node position left right) result) }
+    ensures entered { IfOk result (λ _. Enters (place_of positions.now position) left right walk.old walk.new) }
     ensures kept { IfOk result (λ _. IsWalk (length positions.now) walk.new) }
 {
     let place = judge_split(positions, node, position, left, right)?;
@@ -70,23 +67,11 @@ fn visit_split(
     Ok(())
 }
 
-/// What the nodes of a tree are tested against.
-#[derive(Clone, Copy)]
-struct Trial<'a> {
-    split: &'a Split,
-    cuts: &'a [Cut],
-    /// The positions of the integer columns in the master.
-    positions: &'a [u32],
-    /// What each leaf is to show.
-    goal: Goal,
-    ghost are_positions: { positions.now ≡ positions_of split.now.model split.now.part },
-}
-
 /// Tests a leaf over the box that the walk has come to.
 fn judge_leaf_here(trial: &Trial<'_>, node: u32, leaf: &Leaf, walk: &Walk) -> Result<(), CheckFault>
     requires walk { IsWalk (length trial.now.positions.now) walk.now }
     requires goal { HasPositiveDen trial.now.goal }
-    ensures { Judges (tip_tests trial.now.split.now.model trial.now.split.now.part (bounds_of trial.now.goal) (sides_of trial.now.split.now.model trial.now.split.now.part (box_in walk.now) trial.now.cuts.now) node leaf.now) result }
+    ensures { Judges (here_tests trial.now walk.now node leaf.now) result }
 {
     let sides = Sides {
         rows: trial.split.inequalities(0),
@@ -103,7 +88,7 @@ fn judge_leaf_here(trial: &Trial<'_>, node: u32, leaf: &Leaf, walk: &Walk) -> Re
 fn visit_leaf(trial: &Trial<'_>, node: u32, leaf: &Leaf, walk: &mut Walk) -> Result<(), CheckFault>
     requires walk { IsWalk (length trial.now.positions.now) walk.old }
     requires goal { HasPositiveDen trial.now.goal }
-    ensures judges { JudgesUnless fault.OutOfMemory (tip_tests trial.now.split.now.model trial.now.split.now.part (bounds_of trial.now.goal) (sides_of trial.now.split.now.model trial.now.split.now.part (box_in walk.old) trial.now.cuts.now) node leaf.now) result }
+    ensures judges { JudgesInMemory (here_tests trial.now walk.old node leaf.now) result }
     ensures next { IfOk result (λ _. GoesOn walk.old walk.new) }
     ensures kept { IfOk result (λ _. IsWalk (length trial.now.positions.now) walk.new) }
 {
@@ -117,7 +102,7 @@ fn visit(trial: &Trial<'_>, node: u32, entry: &TreeNode, walk: &mut Walk) -> Res
     requires walk { IsWalk (length trial.now.positions.now) walk.old }
     requires entry { IsNarrowNode entry.now }
     requires goal { HasPositiveDen trial.now.goal }
-    ensures visits { (root : Box) (tree : Tree) (rest : List TreeNode) → Stands trial.now.split.now.model trial.now.split.now.part trial.now.cuts.now (bounds_of trial.now.goal) root tree node (box_in walk.old) (open_in walk.old) (entry.now ∷ rest) → Visits trial.now.split.now.model trial.now.split.now.part trial.now.cuts.now (bounds_of trial.now.goal) root tree node walk.new rest result }
+    ensures visits { VisitsNode trial.now node entry.now walk.old walk.new result }
     ensures kept { IfOk result (λ _. IsWalk (length trial.now.positions.now) walk.new) }
 {
     match entry {
@@ -147,7 +132,8 @@ pub fn judge_tree(
     requires nodes { AllByRecursion IsNarrowNode nodes.now }
     requires few { length nodes.now ≤ 65535 }
     requires goal { HasPositiveDen goal }
-    ensures { (tree : Tree) → IsTreeOf nodes.now tree → JudgesUnless fault.OutOfMemory (tree_tests split.now.model split.now.part cuts.now (bounds_of goal) (box_of root) 0 tree) result }
+    ensures { JudgesTree nodes.now
+        (tree_tests split.now.model split.now.part cuts.now (bounds_of goal) (box_of root) 0) result }
 {
     let trial = Trial {
         split,

@@ -1,22 +1,17 @@
 //! The check of a whole certificate.
-ghost use Rattle.std.specs.Prelude.{◌≡◌, ◌<◌, ◌^◌, ◌++◌, [], ◌∷◌, ◌⊎◌, Ok, Err, IfErr, IfOk, length};
-ghost use Rattle.std.specs.List.{enumerate_from};
+ghost use Rattle.std.specs.Prelude.{◌≡◌, ◌⊎◌, Ok, Err, IfErr, IfOk};
 ghost use Rattle.bz_model.specs.Splits.{IsSplit};
-ghost use Rattle.bz_first.specs.Tests.{Judges, JudgesUnless, each_of, test};
+ghost use Rattle.bz_first.specs.Tests.{Judges};
 ghost use Rattle.bz_tree.specs.Boxes.{IsRootBox};
 ghost use Rattle.bz_tree.specs.Ends.{box_of};
 ghost use Rattle.bz_tree.specs.Integers.{positions_of};
-ghost use Rattle.bz_tree.specs.Trees.{IsTreeOf, Tree};
-ghost use Rattle.bz_model.specs.PartPoints.{HasShape};
+ghost use Rattle.bz_cert.specs.Fits.{Fits};
+ghost use Rattle.bz_cert.specs.Passing.{Passes};
 ghost use Rattle.bz_cert.specs.Shapes.{AreCuts, AreNodes, IsShaped};
 ghost use Rattle.bz_judge.specs.declared.CheckFault.{CheckFault};
 ghost use Rattle.bz_judge.specs.declared.CheckFault.TheVariants as fault;
-ghost use Rattle.bz_check.specs.CheckTests.{HasTree, IsCheckFault, check_tests, cuts_tests, infeasible_tests, optimal_tests, tree_tests, unbounded_tests};
-ghost use Rattle.bz_judge.specs.ValueTests.{cost_tests, value_tests};
-ghost use Rattle.bz_judge.specs.PointTests.{point_tests};
-ghost use Rattle.bz_check.specs.Checking.{IsDue, Settles};
-ghost use Rattle.bz_cert.specs.Fits.{Fits};
-ghost use Rattle.bz_cert.specs.Passing.{Passes};
+ghost use Rattle.bz_check.specs.CheckTests.{IsCheckFault, bound_tests, check_tests, infeasible_tests, optimal_tests, unbounded_tests, value_of_point_tests};
+ghost use Rattle.bz_check.specs.Checking.{IsDue, JudgesCertificate, JudgesTree, Settles};
 ghost use Rattle.bz_check.specs.TreeGoals.{HasPositiveDen, bounds_of};
 
 use crate::cut_list::judge_cuts;
@@ -41,7 +36,7 @@ fn judge_value_of_point(
 ) -> Result<(), CheckFault>
     requires root { IsRootBox split.now.model (box_of root.now) }
     requires positions { positions.now ≡ positions_of split.now.model split.now.part }
-    ensures { Judges (test fault.Shape (HasShape split.now.model split.now.part parts.now) ∷ point_tests split.now.model split.now.part (box_of root.now) parts.now ++ each_of (cost_tests split.now.model split.now.part parts.now.master) (enumerate_from 1 parts.now.blocks) ++ value_tests split.now.model split.now.part parts.now.master value) result }
+    ensures { Judges (value_of_point_tests split.now.model split.now.part (box_of root.now) parts.now value) result }
 {
     judge_shape(split, parts)?;
     judge_point(split, root, positions, parts)?;
@@ -64,7 +59,8 @@ fn judge_bound(
     requires cuts { AreCuts cuts.now }
     requires nodes { AreNodes nodes.now }
     requires goal { HasPositiveDen goal }
-    ensures { (tree : Tree) → IsTreeOf nodes.now tree → JudgesUnless fault.OutOfMemory (cuts_tests split.now.model split.now.part cuts.now ++ tree_tests split.now.model split.now.part cuts.now (bounds_of goal) (box_of root) 0 tree) result }
+    ensures { JudgesTree nodes.now
+        (bound_tests split.now.model split.now.part cuts.now (bounds_of goal) (box_of root)) result }
 {
     judge_cuts(split, cuts)?;
     judge_tree(alloc, split, cuts, root, positions, nodes, goal)
@@ -83,7 +79,8 @@ fn judge_optimal(
     requires positions { positions.now ≡ positions_of split.now.model split.now.part }
     requires cuts { AreCuts c.now.cuts }
     requires nodes { AreNodes c.now.tree }
-    ensures { (tree : Tree) → IsTreeOf c.now.tree tree → JudgesUnless fault.OutOfMemory (optimal_tests split.now.model split.now.part (box_of root) tree parts.now c.now) result }
+    ensures { JudgesTree c.now.tree (λ t.
+        optimal_tests split.now.model split.now.part (box_of root) t parts.now c.now) result }
 {
     judge_value_of_point(split, &root, positions, parts, c.value)?;
     let goal = Goal::Reaches {
@@ -113,7 +110,8 @@ fn judge_infeasible(
     requires positions { positions.now ≡ positions_of split.now.model split.now.part }
     requires cuts { AreCuts c.now.cuts }
     requires nodes { AreNodes c.now.tree }
-    ensures { (tree : Tree) → IsTreeOf c.now.tree tree → JudgesUnless fault.OutOfMemory (infeasible_tests split.now.model split.now.part (box_of root) tree c.now) result }
+    ensures { JudgesTree c.now.tree (λ t.
+        infeasible_tests split.now.model split.now.part (box_of root) t c.now) result }
 {
     judge_bound(
         alloc,
@@ -155,7 +153,7 @@ fn judge_over(
     requires shaped { IsShaped c.now }
     requires root { IsRootBox split.now.model (box_of root) }
     requires positions { positions.now ≡ positions_of split.now.model split.now.part }
-    ensures { (tree : Tree) → HasTree c.now c.now.verdict tree → JudgesUnless fault.OutOfMemory (check_tests split.now.model split.now.part (box_of root) tree c.now) result }
+    ensures { JudgesCertificate c.now (λ t. check_tests split.now.model split.now.part (box_of root) t c.now) result }
 {
     match (c.verdict, &c.parts) {
         (Verdict::Optimal, Some(parts)) => judge_optimal(alloc, split, root, positions, parts, c),
@@ -184,7 +182,8 @@ pub fn check(alloc: Global, split: &Split, c: &Certificate) -> Result<(), CheckF
     ensures fits { IfOk result (λ _. Fits split.now.model split.now.part c.now) }
     ensures split { IfOk result (λ _. IsSplit split.now) }
     ensures fault { IfErr result (λ f. (f ≡ fault.OutOfMemory) ⊎ IsCheckFault split.now.model split.now.part c.now f) }
-    ensures holds { Passes split.now.model split.now.part c.now → Fits split.now.model split.now.part c.now → IsDue (Ok tt) result }
+    ensures holds { Passes split.now.model split.now.part c.now →
+        Fits split.now.model split.now.part c.now → IsDue (Ok tt) result }
     ensures first { (f : CheckFault) → IsCheckFault split.now.model split.now.part c.now f → IsDue (Err f) result }
 {
     judge_certificate(alloc, split, c)

@@ -1,10 +1,8 @@
 //! Whether a cut is valid, with no sum or product wide that tells so.
-ghost use Rattle.std.specs.Prelude.{◌≡◌, ◌↔◌, ◌<◌, ◌≤◌, ◌*ℤ◌, ◌++◌, ◌∷◌, [], IsTrue, length};
-ghost use Rattle.bz_algebra.specs.Numbers.{IsNarrow};
-ghost use Rattle.bz_model.specs.Parting.{blocks_of, inequalities_of, width_of};
+ghost use Rattle.std.specs.Prelude.{◌≡◌, ◌↔◌, ◌<◌, ◌≤◌, ◌*ℤ◌, IsTrue};
+ghost use Rattle.bz_model.specs.Parting.{blocks_of, width_of};
 ghost use Rattle.bz_cut.specs.CutTests.{HasPlaces, cut_tests, form_tests, master_equations, master_tests, own_equations, own_tests, rhs_tests, sum_tests};
 ghost use Rattle.bz_cut.specs.Fits.{IsValidAndFits};
-ghost use Rattle.bz_cut.specs.Rows.{AreMultipliers};
 ghost use Rattle.bz_first.specs.Tests.{Judges};
 
 use crate::faults::CutFault;

@@ -1,6 +1,6 @@
 //! Tests of sums, with whatever answers: `broken` where the numbers are not as tested, `wide` where a sum or a product
 //! that the test needs passes 2^127 - 1 in size. They take no memory.
-ghost use Rattle.std.specs.Prelude.{◌≡◌, ◌*ℤ◌, ◌≤ℤ◌, ℤ, List, [], ◌∷◌, Ok, IfOk, IsTrue};
+ghost use Rattle.std.specs.Prelude.{◌≡◌, ◌*ℤ◌, ℤ, List, [], ◌∷◌, Ok, IfOk};
 ghost use Rattle.std.proofs.Math.IntN.{neg_ℤ};
 ghost use Rattle.bz_algebra.specs.Numbers.{IsNarrow};
 ghost use Rattle.bz_num.specs.Fold.{IsNarrowSum, fold_of};

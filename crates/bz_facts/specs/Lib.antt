@@ -5,6 +5,7 @@ pub mod LineFacts
 pub mod LineSteps
 pub mod LineStops
 pub mod LineTests
+pub mod MpsKinds
 pub mod RowCounts
 pub mod SoundFacts
 pub mod Spellings

@@ -1,4 +1,7 @@
 //! Why a model's text is refused.
+ghost use Rattle.std.specs.Prelude.{◌≡◌};
+ghost use Rattle.bz_facts.specs.MpsKinds.{mps_name, mps_number};
+
 use bz_lines::LineFault;
 use bz_num::OutOfMemory;
 use std::alloc::{AllocError, AllocFailed};
@@ -51,6 +54,68 @@ pub enum MpsKind {
     SplitColumn,
     /// The section is one that is not read.
     SectionOut,
+}
+
+impl MpsKind {
+    /// The number of the kind.
+    pub fn number(self) -> u32
+        ensures { result ≡ mps_number self }
+    {
+        match self {
+            MpsKind::Section => 1,
+            MpsKind::Order => 2,
+            MpsKind::NoObjective => 3,
+            MpsKind::RowKind => 4,
+            MpsKind::DoubleName => 5,
+            MpsKind::UnknownRow => 6,
+            MpsKind::UnknownColumn => 7,
+            MpsKind::DoubleEntry => 8,
+            MpsKind::Number => 9,
+            MpsKind::TooWide => 10,
+            MpsKind::Fields => 11,
+            MpsKind::Marker => 12,
+            MpsKind::MarkerOpen => 13,
+            MpsKind::BoundKind => 14,
+            MpsKind::NegativeUpper => 15,
+            MpsKind::Crossed => 16,
+            MpsKind::NoEnd => 17,
+            MpsKind::NotText => 18,
+            MpsKind::Limit => 19,
+            MpsKind::Sense => 20,
+            MpsKind::SplitColumn => 21,
+            MpsKind::SectionOut => 22,
+        }
+    }
+
+    /// The name of the kind.
+    pub fn name(self) -> &'static [u8]
+        ensures { result.now ≡ mps_name self }
+    {
+        match self {
+            MpsKind::Section => b"Section",
+            MpsKind::Order => b"Order",
+            MpsKind::NoObjective => b"NoObjective",
+            MpsKind::RowKind => b"RowKind",
+            MpsKind::DoubleName => b"DoubleName",
+            MpsKind::UnknownRow => b"UnknownRow",
+            MpsKind::UnknownColumn => b"UnknownColumn",
+            MpsKind::DoubleEntry => b"DoubleEntry",
+            MpsKind::Number => b"Number",
+            MpsKind::TooWide => b"TooWide",
+            MpsKind::Fields => b"Fields",
+            MpsKind::Marker => b"Marker",
+            MpsKind::MarkerOpen => b"MarkerOpen",
+            MpsKind::BoundKind => b"BoundKind",
+            MpsKind::NegativeUpper => b"NegativeUpper",
+            MpsKind::Crossed => b"Crossed",
+            MpsKind::NoEnd => b"NoEnd",
+            MpsKind::NotText => b"NotText",
+            MpsKind::Limit => b"Limit",
+            MpsKind::Sense => b"Sense",
+            MpsKind::SplitColumn => b"SplitColumn",
+            MpsKind::SectionOut => b"SectionOut",
+        }
+    }
 }
 
 /// The fault of a model's text.

@@ -1,6 +1,7 @@
 pub mod BetweenTests
 pub mod CostSums
 pub mod Decided
+pub mod EtaSums
 pub mod FoundSums
 pub mod LaterEntries
 pub mod LeavesTold

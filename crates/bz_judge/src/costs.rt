@@ -1,5 +1,5 @@
 //! The inner costs of parts at a point.
-ghost use Rattle.std.specs.Prelude.{◌≡◌, ◌<◌, ◌≤◌, [], IfOk, length};
+ghost use Rattle.std.specs.Prelude.{◌≡◌, ◌<◌, ◌≤◌, IfOk, length};
 ghost use Rattle.std.specs.List.{AllByRecursion, enumerate_from};
 ghost use Rattle.bz_num.specs.Fold.{fold_of};
 ghost use Rattle.bz_model.specs.Parting.{blocks_of, inner_cost, terms_in, width_of};

@@ -1,6 +1,6 @@
 //! Whether a leaf holds over the sides of a box.
-ghost use Rattle.std.specs.Prelude.{◌≡◌, ◌<◌, ◌*ℤ◌, ◌≤ℤ◌, ◌<ℤ◌, ◌↔◌, pos, length, IsTrue};
-ghost use Rattle.bz_model.specs.Parting.{blocks_of, width_of};
+ghost use Rattle.std.specs.Prelude.{◌≡◌, ◌<◌, ◌<ℤ◌, ◌↔◌, pos, length, IsTrue};
+ghost use Rattle.bz_model.specs.Parting.{width_of};
 ghost use Rattle.bz_cut.specs.Rows.{AreMultipliers};
 ghost use Rattle.bz_first.specs.Tests.{Judges};
 ghost use Rattle.bz_judge.specs.LeafTests.{leaf_bound_tests, leaf_eta_tests, leaf_etas_tests, leaf_form_tests, leaf_master_tests, leaf_masters_tests, leaf_rhs_tests, leaf_tests};

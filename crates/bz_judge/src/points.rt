@@ -1,9 +1,9 @@
 //! Whether the inequalities of the master and of the blocks hold at a point.
-ghost use Rattle.std.specs.Prelude.{◌≡◌, ◌<◌, ◌≤◌, ◌^◌, pos, ◌+ℤ◌, ◌*ℤ◌, [], ◌∷◌, IfOk, length, map};
+ghost use Rattle.std.specs.Prelude.{◌≡◌, ◌<◌, ◌≤◌, ◌^◌, ◌+ℤ◌, ◌*ℤ◌, [], ◌∷◌, IfOk, length};
 ghost use Rattle.std.specs.List.{AllByRecursion, enumerate_from};
 ghost use Rattle.bz_algebra.specs.Sums.{AllBelow};
 ghost use Rattle.bz_num.specs.Fold.{IsNarrowSum};
-ghost use Rattle.bz_model.specs.Parting.{blocks_of, inequalities_of, integers_of, position_of, width_of};
+ghost use Rattle.bz_model.specs.Parting.{blocks_of, width_of};
 ghost use Rattle.bz_model.specs.Splits.{IsSplit};
 ghost use Rattle.bz_first.specs.Tests.{Judges, each_of, test};
 ghost use Rattle.bz_judge.specs.PointTests.{block_tests, blocks_tests, in_block_tests, in_master_tests, point_tests};

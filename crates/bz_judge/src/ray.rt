@@ -1,12 +1,11 @@
 //! Whether the objective improves without end along a direction.
-ghost use Rattle.std.specs.Prelude.{◌≡◌, ◌↔◌, ◌<◌, ◌^◌, pos, ◌<ℤ◌, ◌≤ℤ◌, [], ◌∷◌, IfSome, IfOk, IsTrue, length};
+ghost use Rattle.std.specs.Prelude.{◌≡◌, ◌↔◌, ◌<◌, ◌^◌, pos, ◌≤ℤ◌, [], ◌∷◌, IfSome, IfOk, IsTrue, length};
 ghost use Rattle.std.specs.List.{AllByRecursion, enumerate_from};
 ghost use Rattle.bz_algebra.specs.Sums.{AllBelow, dot};
 ghost use Rattle.bz_num.specs.Fold.{IsNarrowSum, fold_of};
 ghost use Rattle.bz_model.specs.Parting.{inner_cost};
 ghost use Rattle.bz_model.specs.Points.{coordinate};
 ghost use Rattle.bz_first.specs.Tests.{Judges, each_of, test};
-ghost use Rattle.bz_model.specs.Rays.{RowAllows};
 ghost use Rattle.bz_judge.specs.RayTests.{KeepsBounds, ray_bound_tests, ray_cost_tests, ray_integer_tests, ray_row_tests, ray_tests};
 ghost use Rattle.bz_model.specs.PointSums.{row_pairs};
 

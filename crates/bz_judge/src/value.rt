@@ -1,15 +1,11 @@
 //! Whether a value is the master's inner cost with the etas, and the objective that it states is not wide.
-ghost use Rattle.std.specs.Prelude.{◌≡◌, [], ◌∷◌, IfOk, length, ℤ, ◌+ℤ◌, ◌*ℤ◌};
-ghost use Rattle.bz_algebra.specs.Numbers.{IsNarrow};
-ghost use Rattle.bz_algebra.specs.Sums.{dot};
-ghost use Rattle.bz_num.specs.Fold.{IsNarrowSum, fold_of};
+ghost use Rattle.std.specs.Prelude.{◌≡◌, length};
+ghost use Rattle.bz_num.specs.Fold.{fold_of};
 ghost use Rattle.bz_model.specs.Parting.{blocks_of, inner_cost, terms_in, width_of};
-ghost use Rattle.bz_model.specs.Points.{coordinate};
-ghost use Rattle.bz_first.specs.Tests.{Judges, test};
-ghost use Rattle.bz_model.specs.PartPoints.{total};
-ghost use Rattle.bz_judge.specs.declared.faults.CheckFault.TheVariants.{Value, Wide};
+ghost use Rattle.bz_first.specs.Tests.{Judges};
+ghost use Rattle.bz_judge.specs.declared.faults.CheckFault.TheVariants.{Value};
 ghost use Rattle.bz_judge.specs.ValueTests.{stated_tests, sum_tests, value_tests};
-ghost use Rattle.bz_model.specs.PointSums.{stated_pairs, value_pairs};
+ghost use Rattle.bz_model.specs.PointSums.{value_pairs};
 
 use crate::costs::begin_cost;
 use crate::faults::{CheckFault, STATED_NUMBERS, VALUE_SUM, wide_in};

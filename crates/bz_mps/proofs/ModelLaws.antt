@@ -1,6 +1,6 @@
 -- A text has one model.
 use Rattle.std.proofs.Common.{ℕ, pos, Bool, List, [], ◌∷◌, ◌≡◌, refl, sym, ap, ◌∙◌, subst, Option, Some, None}
-use Rattle.std.specs.Prelude.{◌<ℤ◌}
+use Rattle.std.specs.Prelude.{◌<◌, ◌<ℤ◌, ◌^◌, length}
 use Rattle.std.specs.List.{AllZip}
 use Rattle.std.specs.Option.{ForSome}
 use Rattle.std.proofs.Props.{props}
@@ -51,6 +51,8 @@ model_same m n c r o k t s x = λ i. record {
   maximise = x i;
   constant_narrow = is_prop→PathP (λ j. IsNarrow (t j)) (λ j. hlevel props) m.constant_narrow n.constant_narrow i;
   scale_positive = is_prop→PathP (λ j. pos 0 <ℤ s j) (λ j. hlevel props) m.scale_positive n.scale_positive i;
+  few_columns = is_prop→PathP (λ j. length (c j) < 2 ^ 28) (λ j. hlevel props) m.few_columns n.few_columns i;
+  few_rows = is_prop→PathP (λ j. length (r j) < 2 ^ 28) (λ j. hlevel props) m.few_rows n.few_rows i;
 }
 
 one_column : (bounds : List BoundLine) (c : ℕ × (List ℕ × Bool)) (f g : Column) → IsColumnOf bounds c f → IsColumnOf bounds c g → f ≡ g

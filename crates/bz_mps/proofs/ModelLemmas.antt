@@ -1,12 +1,13 @@
 -- The end tests of facts, part by part, and what a model that facts make has.
 use Rattle.std.proofs.Common.{ℕ, ◌<◌, ◌^◌, ◌≤◌, ◌+◌, ◌≡◌, refl, suc, not, sym, ap, subst, arith, ℤ, pos, ◌<ℤ◌, Bool, List, [], ◌∷◌, map, filter, cond, true, false}
-use Rattle.std.specs.Prelude.{flat_map, length, nat_lt, ◌==◌}
+use Rattle.std.specs.Prelude.{flat_map, length, nat_lt, zip, ◌==◌}
 use Rattle.std.specs.Int.RustNames.{unsigned_abs}
 use Rattle.std.specs.List.{AllByRecursion, AllZip, enumerate_from}
 use Rattle.std.proofs.lemmas.Int.{ints}
 use Rattle.std.proofs.lemmas.Slice.Zip.{AllZip-long}
 use Rattle.bz_algebra.specs.Sums.{AllBelow}
 use Rattle.bz_lines.specs.FirstFault.{NoneFails}
+use Rattle.bz_model.specs.declared.Column.{Column}
 use Rattle.bz_model.specs.declared.Model.{Model}
 use Rattle.bz_model.specs.declared.Row.{Row}
 use Rattle.bz_model.specs.Strict.{HasItsColumns}
@@ -17,7 +18,7 @@ use Rattle.bz_facts.specs.declared.MpsStop.{MpsStop}
 use Rattle.bz_facts.specs.declared.RowType.{RowType}
 use Rattle.bz_facts.specs.LineTests.{is_counted, is_free}
 use Rattle.bz_facts.specs.SoundFacts.{AreSound, IsEntryAmong}
-use Rattle.bz_mps.specs.FactModel.{IsModelOf, IsRowOf, end_test_at_row, end_tests, end_tests_at_column, fault}
+use Rattle.bz_mps.specs.FactModel.{IsColumnOf, IsModelOf, IsRowOf, end_test_at_row, end_tests, end_tests_at_column, fault}
 use Rattle.bz_mps.specs.ScaledRows.{constraints, entries_at, is_wide_objective, scaled, terms_by}
 use Rattle.bz_mps.specs.TestAnswers.{StopsAtFirst}
 use Rattle.bz_mps.proofs.BoundNumbers.{power_some}
@@ -77,8 +78,15 @@ rows_below f (r ∷ rs) (row ∷ rows) s h = (subst (AllBelow (length f.columns)
 pub model-columns : (f : Facts) (m : Model) → AreSound f → IsModelOf f m → length m.columns ≡ length f.columns
 model-columns f m s h = as_many_columns f.bounds f.columns f.integers m.columns s.integers h.columns
 
+pub few_columns : (f : Facts) (columns : List Column) → AreSound f →
+    AllZip (IsColumnOf f.bounds) (enumerate_from 0 (zip f.columns f.integers)) columns → length columns ≤ 2048
+few_columns f columns s h =
+    let same : length columns ≡ length f.columns = as_many_columns f.bounds f.columns f.integers columns s.integers h in
+    let few = s.few_columns in
+    omega arith
+
 pub model-few_columns : (f : Facts) (m : Model) → AreSound f → IsModelOf f m → length m.columns ≤ 2048
-model-few_columns f m s h = let same = model-columns f m s h in let few = s.few_columns in omega arith
+model-few_columns f m s h = few_columns f m.columns s h.columns
 
 constraints_counted : (n : ℕ) (types : List RowType) → length (filter (λ r. not (is_free r.1)) (enumerate_from n types)) ≡ length (filter is_counted types)
 constraints_counted n [] = refl
@@ -89,12 +97,15 @@ constraints_counted n (t ∷ ts) = by (not (is_free t)) (constraints_counted (n 
     by true rest = ap (λ n. suc n) rest
     by false rest = rest
 
-pub model-few_rows : (f : Facts) (m : Model) → AreSound f → IsModelOf f m → length m.rows ≤ 2048
-model-few_rows f m s h =
-    let same : length m.rows ≡ length (constraints f.row_types) = AllZip-long (IsRowOf f) (constraints f.row_types) m.rows h.rows in
+pub few_rows : (f : Facts) (rows : List Row) → AreSound f → AllZip (IsRowOf f) (constraints f.row_types) rows → length rows ≤ 2048
+few_rows f rows s h =
+    let same : length rows ≡ length (constraints f.row_types) = AllZip-long (IsRowOf f) (constraints f.row_types) rows h in
     let counted = constraints_counted 0 f.row_types in
     let few = s.few_rows in
     omega arith
+
+pub model-few_rows : (f : Facts) (m : Model) → AreSound f → IsModelOf f m → length m.rows ≤ 2048
+model-few_rows f m s h = few_rows f m.rows s h.rows
 
 -- the rows and the objective have terms of its columns alone
 pub model-its_columns : (f : Facts) (m : Model) → AreSound f → IsModelOf f m → HasItsColumns m

@@ -40,7 +40,7 @@ use Rattle.bz_mps.specs.TestAnswers.{AreFinite}
 use Rattle.bz_mps.proofs.BoundNumbers.{finite_above, fraction_above, fraction_below, power_fits, power_some}
 use Rattle.bz_mps.proofs.ColumnSteps.{lines_finite}
 use Rattle.bz_mps.proofs.EndLemmas.{binary_finite, bounded_finite, starting_finite}
-use Rattle.bz_mps.proofs.ModelLemmas.{scale_positive}
+use Rattle.bz_mps.proofs.ModelLemmas.{few_columns, few_rows, scale_positive}
 
 -- A finite decimal has a fraction in lowest terms.
 
@@ -183,6 +183,8 @@ model_there f s h = (
     maximise = f.maximise;
     constant_narrow = narrow_number (constant_of f) (or-none (has_wide_term (cost_of f)) (is_wide (constant_of f)) behind.0).1;
     scale_positive = scale_positive (pos (10 ^ objective_digits f)) (objective_digits f) refl;
+    few_columns = omega (arith, few_columns f columns.0 s columns.1);
+    few_rows = omega (arith, few_rows f rows.0 s rows.1);
   },
   record { columns = columns.1; rows = rows.1; objective = refl; cost = refl; constant = refl; scale = refl; maximise = refl },
 )

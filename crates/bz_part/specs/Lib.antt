@@ -1,3 +1,4 @@
+pub mod PartKinds
 pub mod PartStops
 pub mod Partition
 pub mod PartitionLines

@@ -1,5 +1,6 @@
 //! Why the text of a partition is refused.
 ghost use Rattle.std.specs.Prelude.{◌≡◌};
+ghost use Rattle.bz_part.specs.PartKinds.{part_name, part_number};
 
 use bz_lines::LineFault;
 use std::alloc::{AllocError, AllocFailed};
@@ -26,6 +27,40 @@ pub enum PartKind {
     },
     /// A byte below 32 other than tab.
     NotText,
+}
+
+impl PartKind {
+    /// The number of the kind.
+    pub fn number(self) -> u32
+        ensures { result ≡ part_number self }
+    {
+        match self {
+            PartKind::Head => 1,
+            PartKind::Fields => 2,
+            PartKind::Unknown => 3,
+            PartKind::Double => 4,
+            PartKind::Value => 5,
+            PartKind::Limit => 6,
+            PartKind::Gap { .. } => 7,
+            PartKind::NotText => 8,
+        }
+    }
+
+    /// The name of the kind.
+    pub fn name(self) -> &'static [u8]
+        ensures { result.now ≡ part_name self }
+    {
+        match self {
+            PartKind::Head => b"Head",
+            PartKind::Fields => b"Fields",
+            PartKind::Unknown => b"Unknown",
+            PartKind::Double => b"Double",
+            PartKind::Value => b"Value",
+            PartKind::Limit => b"Limit",
+            PartKind::Gap { .. } => b"Gap",
+            PartKind::NotText => b"NotText",
+        }
+    }
 }
 
 /// The first fault of a partition's text.

@@ -4,7 +4,7 @@
 --     infeasible: 2 x = 1 where x is an integer from 0 to 1, in the master. The tree splits x at 0 and 1, and both leaves are empty
 use Rattle.std.specs.Prelude.{ℕ, zero, suc, ℤ, pos, negsuc, true, false, List, [], ◌∷◌, Some, None, ◌<◌, ◌≤◌, ◌≡◌}
 use Rattle.std.specs.Option.{ForSome}
-use Rattle.std.proofs.Common.{refl, subst, arith, inl, inr}
+use Rattle.std.proofs.Common.{refl, subst, arith, inl, inr, length, ◌^◌}
 use Rattle.std.proofs.lemmas.Int.{ints}
 use Rattle.bz_algebra.specs.Fractions.{whole}
 use Rattle.bz_algebra.specs.Numbers.{IsNarrow}
@@ -46,8 +46,8 @@ binary = record { name = []; integer = true; lower = Some (fraction 0 (omega ari
 abbrev continuous : Column
 continuous = record { name = []; integer = false; lower = Some (fraction 0 (omega arith)); upper = None }
 
-abbrev model : List Column → Row → List (ℕ × ℤ) → Model
-model columns row cost = record {
+abbrev model : (columns : List Column) → length columns < 2 ^ 28 → Row → List (ℕ × ℤ) → Model
+model columns few row cost = record {
   columns = columns;
   rows = row ∷ [];
   objective = [];
@@ -57,6 +57,8 @@ model columns row cost = record {
   maximise = false;
   constant_narrow = omega arith;
   scale_positive = omega (arith, ints);
+  few_columns = few;
+  few_rows = omega arith;
 }
 
 one_only : (P : ℕ → Type 0) → P 0 → (i : ℕ) → i < 1 → P i
@@ -72,7 +74,7 @@ abbrev link : Row
 link = record { name = []; terms = (0, pos 2) ∷ (1, pos 1) ∷ []; lower = Some (pos 1); upper = None; lower_narrow = some_narrow (pos 1) (omega arith); upper_narrow = none_narrow }
 
 abbrev two : List (ℕ × ℤ) → Model
-two cost = model (binary ∷ continuous ∷ []) link cost
+two cost = model (binary ∷ continuous ∷ []) (omega arith) link cost
 
 abbrev costs : List (ℕ × ℤ)
 costs = (0, pos 2) ∷ (1, pos 3) ∷ []
@@ -275,7 +277,7 @@ abbrev odd : Row
 odd = record { name = []; terms = (0, pos 2) ∷ []; lower = Some (pos 1); upper = Some (pos 1); lower_narrow = some_narrow (pos 1) (omega arith); upper_narrow = some_narrow (pos 1) (omega arith) }
 
 abbrev half : Model
-half = model (binary ∷ []) odd []
+half = model (binary ∷ []) (omega arith) odd []
 
 abbrev alone : List ℕ
 alone = 0 ∷ []

@@ -10,7 +10,7 @@ use Rattle.bz_top.specs.declared.status.Refusal.{Refusal}
 use Rattle.bz_top.specs.declared.status.Refusal.TheVariants as refusal
 use Rattle.bz_top.specs.declared.status.Status.{Status}
 use Rattle.bz_top.specs.declared.status.Status.TheVariants as status
-use Rattle.bz_top.specs.Claims.{BreaksOff, BreaksOffAsked, BreaksOffUsage, EndsSettled, IsCause, RefusesAsked}
+use Rattle.bz_top.specs.Claims.{BreaksOff, BreaksOffAsked, BreaksOffUsage, CountsRefused, EndsSettled, IsCause, RefusesAsked}
 use Rattle.bz_top.specs.Ends.{IsRefused, refusal_text, status_after, status_of}
 use Rattle.bz_top.specs.Jobs.{SomeJob}
 use Rattle.bz_top.specs.Loads.{Decomposes, IsEarly}
@@ -32,11 +32,12 @@ not_write (refusal.TooLong _) e = absurd cc
 not_write refusal.Memory e = absurd cc
 
 -- ---- what follows of a refusal whose text was put
-pub refuses_breaks : (told : Option Telling) (j : Job) (r : Refusal) (before after : Option (List ℕ)) (faults now : FaultCount) (s : Status) → IsCause told j r → Refuses j r before after faults now s → s ≡ status.Write → BreaksOff told j before after
-refuses_breaks told j r before after faults now s cause (inl whole) e = absurd (not_write r (sym whole.status_is ∙ e))
-refuses_breaks told j r before after faults now s cause (inr part) e = record {
+pub refuses_breaks : (told : Option Telling) (j : Job) (r : Refusal) (before after : Option (List ℕ)) (faults now loads loaded : FaultCount) (s : Status) → IsCause told j r → CountsRefused r loads loaded → Refuses j r before after faults now s → s ≡ status.Write
+    → BreaksOff told j before after loads loaded
+refuses_breaks told j r before after faults now loads loaded s cause counted (inl whole) e = absurd (not_write r (sym whole.status_is ∙ e))
+refuses_breaks told j r before after faults now loads loaded s cause counted (inr part) e = record {
   text = refusal_text j r;
-  said = inr (record { refusal = r; cause = cause; text_is = refl });
+  said = inr (record { refusal = r; cause = cause; text_is = refl; loads = counted });
   printed = part.printed;
 }
 
@@ -56,15 +57,15 @@ memory_refused (Ok _) words told before after some printed is = record {
 }
 memory_refused (Err _) words told before after some printed is = absurd is
 
-pub memory_written : {T E : Type 0} (put : Result T E) (words : List (List ℕ)) (told : Option Telling) (before after : Option (List ℕ)) → SomeJob words
-    → OnErr put (WhereTold (TakesPrefix memory_text) before after) → status_after put status.Memory ≡ status.Write → BreaksOffAsked words told before after ⊎ BreaksOffUsage words before after
-memory_written (Ok _) words told before after some printed is = absurd cc
-memory_written (Err _) words told before after some printed is = inl (record {
+pub memory_written : {T E : Type 0} (put : Result T E) (words : List (List ℕ)) (told : Option Telling) (before after : Option (List ℕ)) (faults : FaultCount) → SomeJob words
+    → OnErr put (WhereTold (TakesPrefix memory_text) before after) → status_after put status.Memory ≡ status.Write → BreaksOffAsked words told before after faults faults ⊎ BreaksOffUsage words before after
+memory_written (Ok _) words told before after faults some printed is = absurd cc
+memory_written (Err _) words told before after faults some printed is = inl (record {
   job = some.job;
   asked = some.asked;
   breaks = record {
     text = memory_text;
-    said = inr (record { refusal = refusal.Memory; cause = memory_cause told some.job; text_is = refl });
+    said = inr (record { refusal = refusal.Memory; cause = memory_cause told some.job; text_is = refl; loads = refl });
     printed = printed;
   };
 })

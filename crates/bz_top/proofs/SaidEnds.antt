@@ -34,12 +34,12 @@ pub said_done : {T E : Type 0} (put : Result T E) (told : Option Telling) (j : J
 said_done (Ok _) told j said before after of_job shown printed e = record { said = said; of_job = of_job; shown = shown; printed = printed }
 said_done (Err _) told j said before after of_job shown printed e = absurd cc
 
-pub said_written : {T E : Type 0} (put : Result T E) (told : Option Telling) (j : Job) (said : Said) (before after : Option (List ℕ)) → IsOfJob j said → Shown told j said
-    → OnErr put (WhereTold (TakesPrefix (said_text said)) before after) → status_after put status.Done ≡ status.Write → BreaksOff told j before after
-said_written (Ok _) told j said before after of_job shown printed e = absurd cc
-said_written (Err _) told j said before after of_job shown printed e = record {
+pub said_written : {T E : Type 0} (put : Result T E) (told : Option Telling) (j : Job) (said : Said) (before after : Option (List ℕ)) (faults now : FaultCount) → IsOfJob j said → Shown told j said
+    → now.number ≡ faults.number → OnErr put (WhereTold (TakesPrefix (said_text said)) before after) → status_after put status.Done ≡ status.Write → BreaksOff told j before after faults now
+said_written (Ok _) told j said before after faults now of_job shown loads printed e = absurd cc
+said_written (Err _) told j said before after faults now of_job shown loads printed e = record {
   text = said_text said;
-  said = inl (record { said = said; of_job = of_job; shown = shown; text_is = refl });
+  said = inl (record { said = said; of_job = of_job; shown = shown; text_is = refl; loads = loads });
   printed = printed;
 }
 

@@ -243,6 +243,10 @@ CountsFiles (Ok _) before after = after.number ≡ before.number
 CountsFiles (Err (refusal.Read _)) before after = HasRisen before after
 CountsFiles (Err _) before after = after.number ≡ before.number
 
+-- the same of a job that was refused
+abbrev pub CountsRefused : Refusal → FaultCount → FaultCount → Type 0
+CountsRefused r before after = CountsFiles {T = Said} (Err r) before after
+
 -- The job comes to what its files show, and the text of that was taken, where the desk and the sink tell that.
 pub record ShowsOf (told : Option Telling) (j : Job) (before after : Option (List ℕ)) : Type 0 where
   pub said : Said
@@ -257,27 +261,29 @@ pub record RefusesJob (told : Option Telling) (j : Job) (ends : Status) (before 
   pub cause : IsCause told j refusal
   pub printed : WhereTold (Takes (refusal_text j refusal)) before after
 
--- the text is that of what the files show
-pub record SaysShown (told : Option Telling) (j : Job) (text : List ℕ) : Type 0 where
+-- the text is that of what the files show, and no load failed
+pub record SaysShown (told : Option Telling) (j : Job) (text : List ℕ) (faults now : FaultCount) : Type 0 where
   pub said : Said
   pub of_job : IsOfJob j said
   pub shown : Shown told j said
   pub text_is : text ≡ said_text said
+  pub loads : now.number ≡ faults.number
 
--- the text is that of a refusal with its cause
-pub record SaysRefusal (told : Option Telling) (j : Job) (text : List ℕ) : Type 0 where
+-- the text is that of a refusal with its cause, and no load failed but the one that it tells of
+pub record SaysRefusal (told : Option Telling) (j : Job) (text : List ℕ) (faults now : FaultCount) : Type 0 where
   pub refusal : Refusal
   pub cause : IsCause told j refusal
   pub text_is : text ≡ refusal_text j refusal
+  pub loads : CountsRefused refusal faults now
 
--- the text is one that the job may end with
-abbrev pub IsSaid : Option Telling → Job → List ℕ → Type 0
-IsSaid told j text = SaysShown told j text ⊎ SaysRefusal told j text
+-- the text is one that the job may end with, and the desk's count of faults is that of its loads
+abbrev pub IsSaid : Option Telling → Job → List ℕ → FaultCount → FaultCount → Type 0
+IsSaid told j text faults now = SaysShown told j text faults now ⊎ SaysRefusal told j text faults now
 
 -- a prefix of the text that the job ends with was taken, where the sink tells that
-pub record BreaksOff (told : Option Telling) (j : Job) (before after : Option (List ℕ)) : Type 0 where
+pub record BreaksOff (told : Option Telling) (j : Job) (before after : Option (List ℕ)) (faults now : FaultCount) : Type 0 where
   pub text : List ℕ
-  pub said : IsSaid told j text
+  pub said : IsSaid told j text faults now
   pub printed : WhereTold (TakesPrefix text) before after
 
 -- ---- what the desk settles
@@ -331,10 +337,10 @@ pub record RefusesAsked (words : List (List ℕ)) (told : Option Telling) (ends 
   pub asked : JobOf words job
   pub refuses : RefusesJob told job ends before after
 
-pub record BreaksOffAsked (words : List (List ℕ)) (told : Option Telling) (before after : Option (List ℕ)) : Type 0 where
+pub record BreaksOffAsked (words : List (List ℕ)) (told : Option Telling) (before after : Option (List ℕ)) (faults now : FaultCount) : Type 0 where
   pub job : Job
   pub asked : JobOf words job
-  pub breaks : BreaksOff told job before after
+  pub breaks : BreaksOff told job before after faults now
 
 -- the status is the one that the desk settles for the job of the words
 abbrev pub EndsSettledAsked : List (List ℕ) → Option Telling → Status → Type 0

@@ -82,14 +82,17 @@ pub fn do_alone<D: Desk, O: Sink>(alloc: Global, job: &Job, desk: &mut D, out: &
     // Every other status is that of a refusal with its cause and its text, or a text could not be put whole.
     ensures never { (result ≢ Status.Usage) × (result ≢ Status.Unresolved) }
     ensures refused { IsRefused result → RefusesJob (D.told desk.old) job.now result (O.taken out.old) (O.taken out.new) }
-    ensures written { result ≡ Status.Write → BreaksOff (D.told desk.old) job.now (O.taken out.old) (O.taken out.new) }
+    ensures written { result ≡ Status.Write
+        → BreaksOff (D.told desk.old) job.now (O.taken out.old) (O.taken out.new)
+        (D.faults desk.old) (D.faults desk.new) }
 
     // The status that the desk settles comes, unless a write failed or there is no memory: so that of a file that can't be
     // read comes exactly where its load fails.
     ensures settled { EndsSettled (D.told desk.old) job.now result }
 
-    // A count of faults rises by one where the status says so, and nothing is loaded or put after that fault; else it stays.
-    // The desk's never falls.
+    // The desk's count of faults rises by one where a load failed, of which the status tells, or, where a write failed,
+    // the text that could not be put; else it stays. As any load may fail, none is made after one that failed or after a
+    // failed put. The sink's count rises by one where a write failed, and nothing is put after that; else it stays.
     ensures read { result ≡ Status.Read → HasRisen (D.faults desk.old) (D.faults desk.new) }
     ensures read_well { result ≢ Status.Read → result ≢ Status.Write → (D.faults desk.new).number ≡ (D.faults desk.old).number }
     ensures no_fall { (D.faults desk.old).number ≤ (D.faults desk.new).number }
@@ -124,14 +127,16 @@ pub fn run<D: Desk, O: Sink>(alloc: Global, words: &[String], desk: &mut D, out:
     ensures refused { IsRefused result → RefusesAsked (map string_bytes words.now) (D.told desk.old) result (O.taken out.old) (O.taken out.new) }
     ensures written { result ≡ Status.Write →
         BreaksOffAsked (map string_bytes words.now) (D.told desk.old) (O.taken out.old) (O.taken out.new)
+        (D.faults desk.old) (D.faults desk.new)
         ⊎ BreaksOffUsage (map string_bytes words.now) (O.taken out.old) (O.taken out.new) }
 
     // The status that the desk settles comes, unless a write failed or there is no memory: so that of a file that can't be
     // read comes exactly where its load fails.
     ensures settled { EndsSettledAsked (map string_bytes words.now) (D.told desk.old) result }
 
-    // A count of faults rises by one where the status says so, and nothing is loaded or put after that fault; else it stays.
-    // The desk's never falls.
+    // The desk's count of faults rises by one where a load failed, of which the status tells, or, where a write failed,
+    // the text that could not be put; else it stays. As any load may fail, none is made after one that failed or after a
+    // failed put. The sink's count rises by one where a write failed, and nothing is put after that; else it stays.
     ensures read { result ≡ Status.Read → HasRisen (D.faults desk.old) (D.faults desk.new) }
     ensures read_well { result ≢ Status.Read → result ≢ Status.Write → (D.faults desk.new).number ≡ (D.faults desk.old).number }
     ensures no_fall { (D.faults desk.old).number ≤ (D.faults desk.new).number }

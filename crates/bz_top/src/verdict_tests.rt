@@ -13,7 +13,7 @@ const TWO_LEAVES: &str =
     "bzcert 1\nverdict optimal\nmaster 1 1\neta 0\nblock 1 1 0\nvalue 2\ncuts 2\ncut 1 1 0 1 0 1 1 3\ncut 1 1 -3 1 1 0 -6 1 0 3\nsplit 0 0 1\nleaf 1 3 2 0 4 3 1\nleaf 1 2 2 1 2 2 1\nend\n";
 
 /// Texts in the place of others in that certificate, how the check ends, and what is printed.
-const CHANGES: [(&str, &str, Status, &str); 21] = [
+const CHANGES: [(&str, &str, Status, &str); 22] = [
     // the text as it is
     (
         "bzcert 1\n",
@@ -23,6 +23,13 @@ const CHANGES: [(&str, &str, Status, &str); 21] = [
     ),
     // the sum has -3 at x where -2 is needed
     ("0 4 3 1", "0 3 3 1", Status::Cert, "certificate: Leaf 1\n"),
+    // the delta is below 0, which is told before any sum with it is made
+    (
+        "leaf 1 3 2 0 4 3 1",
+        "leaf -170141183460469231731687303715884105727 0 0",
+        Status::Cert,
+        "certificate: Leaf 1\n",
+    ),
     // the two sides don't meet
     (
         "split 0 0 1",

@@ -1,7 +1,7 @@
-use Rattle.std.proofs.Common.{rules, FitsSigned, to_z-of_z}
+use Rattle.std.proofs.Common.{rules, ap, arith, length, FitsSigned, to_z-of_z}
 use Rattle.std.specs.Int.{w128}
 use Rattle.bz_mps.proofs.TestLists.{stops_on}
-use Rattle.bz_mps.proofs.ModelLemmas.{all_pass, column_stops_all, objective_stops_all, row_stops_all, scale_positive}
+use Rattle.bz_mps.proofs.ModelLemmas.{all_pass, column_stops_all, few_columns, few_rows, objective_stops_all, row_stops_all, scale_positive}
 use Rattle.bz_mps.proofs.making.model_of.Goals as goal
 
 pub returns-in_err-columns-clause-tests : goal.returns-in_err-columns-clause-tests
@@ -25,6 +25,8 @@ invariant_of-result c =
     record {
       constant_narrow = rw (to_z-of_z constant) c.in_ok-objective.ensures.objective.constant_narrow;
       scale_positive = rw (to_z-of_z scale) (scale_positive c.in_ok-objective.objective.scale _ c.in_ok-objective.ensures.objective.scale_is);
+      few_columns = omega (arith, ap length c.from_vec.ensures, few_columns c.args.facts.now c.in_ok-columns.columns.items c.requires c.in_ok-columns.ensures.columns);
+      few_rows = omega (arith, ap length c.from_vec-2.ensures, few_rows c.args.facts.now c.in_ok-rows-2.rows.items c.requires c.in_ok-rows-2.ensures.rows);
     }
 
 pub returns-clause-tests : goal.returns-clause-tests

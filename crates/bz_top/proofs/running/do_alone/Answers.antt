@@ -11,7 +11,7 @@ returns-in-Ok-clause-done g c = λ e.
 
 pub returns-in-Ok-clause-written : goal.returns-in-Ok-clause-written
 returns-in-Ok-clause-written g c = λ e.
-    said_written c.put_said.result _ c.args.job.now c.in-Ok.said _ _ c.in-Ok.ensures.of_job c.in-Ok.ensures.shown c.put_said.ensures.failed (sym c.status_after.ensures ∙ e)
+    said_written c.put_said.result _ c.args.job.now c.in-Ok.said _ _ _ _ c.in-Ok.ensures.of_job c.in-Ok.ensures.shown c.in-Ok.ensures.count c.put_said.ensures.failed (sym c.status_after.ensures ∙ e)
 
 pub returns-in-Ok-clause-settled : goal.returns-in-Ok-clause-settled
 returns-in-Ok-clause-settled g c =
@@ -19,7 +19,7 @@ returns-in-Ok-clause-settled g c =
     (said_settled c.put_said.result _ c.args.job.now c.in-Ok.said c.in-Ok.ensures.of_job c.in-Ok.ensures.decomposed c.in-Ok.ensures.shown)
 
 pub returns-in-Err-clause-written : goal.returns-in-Err-clause-written
-returns-in-Err-clause-written g c = λ e. refuses_breaks _ _ _ _ _ _ _ _ c.in-Err.ensures.cause c.refuse.ensures e
+returns-in-Err-clause-written g c = λ e. refuses_breaks _ _ _ _ _ _ _ _ _ _ c.in-Err.ensures.cause c.in-Err.ensures.count c.refuse.ensures e
 
 pub returns-in-Err-clause-settled : goal.returns-in-Err-clause-settled
 returns-in-Err-clause-settled g c = refuses_settled _ _ _ _ _ _ _ _ c.in-Err.ensures.decomposed c.in-Err.ensures.cause c.refuse.ensures

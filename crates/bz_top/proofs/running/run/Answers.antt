@@ -22,6 +22,6 @@ returns-in-Err-OutOfMemory-clause-written g c =
     let words = map (λ w. string_bytes w) c.args.words.now in
     let told = g.D.Desk.told c.args.desk.now in
     let some : SomeJob words = rw c.in-Err-OutOfMemory.field-0-is at c.in-Err-OutOfMemory.ensures in
-    subst (λ (s : Status). s ≡ status.Write → BreaksOffAsked words told (g.O.Sink.taken c.args.out.now) (g.O.Sink.taken c.put_out_of_memory.new.out) ⊎ BreaksOffUsage words (g.O.Sink.taken c.args.out.now) (g.O.Sink.taken c.put_out_of_memory.new.out))
+    subst (λ (s : Status). s ≡ status.Write → BreaksOffAsked words told (g.O.Sink.taken c.args.out.now) (g.O.Sink.taken c.put_out_of_memory.new.out) (g.D.Desk.faults c.args.desk.now) (g.D.Desk.faults c.args.desk.now) ⊎ BreaksOffUsage words (g.O.Sink.taken c.args.out.now) (g.O.Sink.taken c.put_out_of_memory.new.out))
     (sym c.status_after-in-Err-OutOfMemory.ensures)
-    (memory_written c.put_out_of_memory.result words told _ _ some c.put_out_of_memory.ensures.failed)
+    (memory_written c.put_out_of_memory.result words told _ _ _ some c.put_out_of_memory.ensures.failed)
