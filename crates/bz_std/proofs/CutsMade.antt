@@ -58,7 +58,7 @@ module _ (m : Model) (part : List ℕ) (point : Master) (b : ℕ) where
   own_sum y way j = with_cost (λ terms rhs. coef terms j) y way ∙ ap (λ (t : ℤ). t +ℤ (cost_multiplier way (length is) y *ℤ coef (terms_in part b (inner_cost m)) j)) (made_sum (own_line point) is y (λ terms rhs. coef terms j) (λ own master rhs. coef own j) (λ i. refl))
 
   -- the right side of a row
-  right_of : (i : Ineq) → products (right_pairs point i) ≡ (point.den *ℤ i.rhs) -ℤ dot i.master (coordinate point.x)
+  pub right_of : (i : Ineq) → products (right_pairs point i) ≡ (point.den *ℤ i.rhs) -ℤ dot i.master (coordinate point.x)
   right_of i = ap (λ (t : ℤ). (point.den *ℤ i.rhs) +ℤ t) (products-pairs_at (negated i.master) (coordinate point.x) ∙ dot_negated i.master (coordinate point.x))
 
   apart : (y d h t : ℤ) → y *ℤ ((d *ℤ h) -ℤ t) ≡ (d *ℤ (y *ℤ h)) -ℤ (y *ℤ t)

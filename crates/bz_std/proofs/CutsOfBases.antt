@@ -1,5 +1,5 @@
 -- The cut of a basis is one, at every point.
-use Rattle.std.specs.Prelude.{ℕ, zero, suc, ◌+◌, ◌<◌, ◌≤◌, ◌≡◌, ℤ, pos, ◌*ℤ◌, ◌<ℤ◌, nat_lt, List, [], ◌∷◌, ◌++◌, length, map, true}
+use Rattle.std.specs.Prelude.{ℕ, zero, suc, ◌+◌, ◌<◌, ◌≤◌, ◌≡◌, ℤ, pos, ◌*ℤ◌, nat_lt, List, [], ◌∷◌, ◌++◌, length, map, true}
 use Rattle.std.specs.Int.{◌∣◌}
 use Rattle.std.specs.Int.RustNames.{unsigned_abs}
 use Rattle.std.proofs.Common.{refl, ap, sym, subst, ◌∙◌, arith, inl, inr}
@@ -177,3 +177,21 @@ module _ (m : Model) (part : List ℕ) (b : ℕ) where
 
   pub one_cut_of_basis : (way : Mode) (basis : List ℕ) (cut copy : Cut) → CutOf m part way b basis cut → CutOf m part way b basis copy → AreSame cut copy × (cut.mu ≡ copy.mu) × (cut.gcd ≡ copy.gcd)
   one_cut_of_basis way basis cut copy = one_cut_of way basis basis cut copy (record { there = λ i l. (i, l, refl); back = λ i l. (i, l, refl) })
+
+  -- ---- its mode
+  how_many : (way : Mode) → length (unsided_separation m part b way).rows ≡ length of_block + length (falling_cost m part b way)
+  how_many way = length-append (map falling_line of_block) (falling_cost m part b way) ∙ ap (λ (n : ℕ). n + length (falling_cost m part b way)) (length-map of_block falling_line)
+
+  by_count : (way kind : Mode) → length (unsided_separation m part b way).rows ≡ length (unsided_separation m part b kind).rows → way ≡ kind
+  by_count mode.Cost mode.Cost e = refl
+  by_count mode.Cost mode.Point e = absurd (omega (arith, e, how_many mode.Cost, how_many mode.Point))
+  by_count mode.Point mode.Cost e = absurd (omega (arith, e, how_many mode.Cost, how_many mode.Point))
+  by_count mode.Point mode.Point e = refl
+
+  -- a basis of the one mode is none of the other
+  pub one_mode : (way kind : Mode) (basis : List ℕ) (cut copy : Cut) → CutOf m part way b basis cut → CutOf m part kind b basis copy → way ≡ kind
+  one_mode way kind basis cut copy c k = by_count way kind (sym c.is_basis.count ∙ k.is_basis.count)
+
+  -- nor is a program
+  pub one_program_mode : (point other : Master) (way kind : Mode) (lp : Lp) → IsSeparationLp m part point b way lp → IsSeparationLp m part other b kind lp → way ≡ kind
+  one_program_mode point other way kind lp s k = by_count way kind ((differ point m part b way lp s.program).rows ∙ sym (differ other m part b kind lp k.program).rows)

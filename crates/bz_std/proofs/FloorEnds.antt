@@ -1,21 +1,22 @@
 -- The two ends of a posed program's cost, and of a block's.
 use Rattle.std.specs.Prelude.{ℕ, ◌<◌, ◌≡◌, ℤ, pos, ◌+ℤ◌, ◌*ℤ◌, neg_ℤ, ◌≤ℤ◌, ◌<ℤ◌, ◌⊎◌, List, length}
-use Rattle.std.proofs.Common.{refl, ap, sym, ◌∙◌, arith, inl, inr}
+use Rattle.std.proofs.Common.{refl, sym, ◌∙◌, arith, inl, inr}
 use Rattle.std.proofs.lemmas.Int.{ints}
 use Rattle.std.proofs.lemmas.List.{length-map}
 use Rattle.bz_algebra.specs.Sums.{dot, coef, upto}
 use Rattle.bz_algebra.proofs.Ring.{mul_zero}
-use Rattle.bz_algebra.proofs.SumLemmas.{dot_all, upto_zeros}
-use Rattle.bz_farkas.specs.Falls.{HasBalance, HasFall, IsFall}
+use Rattle.bz_algebra.proofs.SumLemmas.{dot_all, dot_zero, upto_zeros}
+use Rattle.bz_farkas.specs.Falls.{IsFall}
 use Rattle.bz_farkas.proofs.Farkas as dense
 use Rattle.bz_model.specs.declared.Ineq.{Ineq}
 use Rattle.bz_model.specs.declared.Model.{Model}
 use Rattle.bz_model.specs.Decomposed.{IsDecomposed}
-use Rattle.bz_model.specs.Parting.{inequalities_of, inner_cost, terms_in, width_of}
+use Rattle.bz_model.specs.Parting.{inequalities_of}
+use Rattle.bz_model.proofs.MeetingParts.{all_of}
+use Rattle.bz_model.proofs.Numbered.{all_mapped}
 use Rattle.bz_cut.specs.Rows.{own_at}
-use Rattle.bz_std.specs.CutsFrom.{BalancesCost}
 use Rattle.bz_std.specs.Floored.{CostFalls, CostIsBalanced}
-use Rattle.bz_std.specs.Meanings.{terms_at, sum_on, sum_right, AreNonnegative, IsEmptyBy, IsFallAlong}
+use Rattle.bz_std.specs.Meanings.{terms_at, sum_on, sum_right, AreNonnegative, IsEmptyBy, IsFallAlong, IsPossible}
 use Rattle.bz_std.specs.Posed.{IsPosed, Posed}
 use Rattle.bz_std.specs.Tasks.{falling_line, floor}
 use Rattle.bz_std.proofs.Lines.{all_lines, each_line, line_below}
@@ -90,3 +91,13 @@ module _ (m : Model) (part : List ℕ) (b : ℕ) where
   floor_never_empty y e =
       let none : sum_right (floor m part b) y ≡ pos 0 = made_sum falling_line of_block y (λ terms rhs. rhs) (λ own master rhs. pos 0) (λ i. refl) ∙ upto_zeros (length of_block) _ (λ n l. mul_zero (y n)) in
       omega (arith, ints, e.right, none)
+
+  -- along no direction at all nothing rises
+  pub floor_possible : IsPossible (floor m part b)
+  floor_possible = record {
+    v = λ j. pos 0;
+    den = pos 1;
+    positive = omega (arith, ints);
+    meets = all_mapped (λ row. (dot row.terms (λ j. pos 0)) ≤ℤ ((row.rhs *ℤ pos 1) +ℤ (pos 0))) falling_line of_block
+        (all_of _ of_block (λ i. rw (dot_zero i.own) (omega (arith, ints))));
+  }

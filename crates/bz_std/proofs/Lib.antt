@@ -8,10 +8,13 @@ pub mod Entries
 pub mod FloorEnds
 pub mod LeavesMade
 pub mod Lines
+pub mod ListFacts
 pub mod Listed
+pub mod LowestForms
 pub mod Moved
 pub mod NodeFloors
 pub mod NodeRows
+pub mod OneLowest
 pub mod OverColumns
 pub mod PosedLps
 pub mod PosedTasks

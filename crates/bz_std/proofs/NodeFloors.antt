@@ -1,8 +1,8 @@
 -- Why the cost of a node doesn't fall without bound. This is the one place that knows it: each position of the master
 -- has two bounds, so that nothing moves there along a direction, and each eta has a floor.
-use Rattle.std.specs.Prelude.{ℕ, zero, suc, ◌+◌, ◌-◌, ◌<◌, ◌≤◌, ◌≡◌, true, false, not, ◌&&◌, ◌==◌, ℤ, pos, negsuc, ◌+ℤ◌, ◌*ℤ◌, neg_ℤ, ◌≤ℤ◌, ◌<ℤ◌, List, [], ◌∷◌, ◌++◌, length, map, Option, Some, None, IsSome, Contains}
+use Rattle.std.specs.Prelude.{ℕ, zero, suc, ◌+◌, ◌-◌, ◌<◌, ◌≤◌, ◌≡◌, true, false, not, ◌&&◌, ◌==◌, ℤ, pos, negsuc, ◌+ℤ◌, ◌*ℤ◌, neg_ℤ, ◌≤ℤ◌, List, [], ◌∷◌, ◌++◌, map, Option, Some, None, IsSome}
 use Rattle.std.specs.List.{AllByRecursion, enumerate_from, flat_map}
-use Rattle.std.proofs.Common.{refl, ap, sym, subst, ◌∙◌, arith, inl, inr}
+use Rattle.std.proofs.Common.{refl, ap, subst, ◌∙◌, arith, inl, inr}
 use Rattle.std.proofs.lemmas.Bool.{cases_Bool, and_from, both_ways, eq-eqb, not_from_false}
 use Rattle.std.proofs.lemmas.Int.{ints}
 use Rattle.bz_algebra.specs.Sums.{dot, AllBelow}
@@ -29,16 +29,7 @@ use Rattle.bz_tree.specs.Leaves.{side_of_cut, side_of_master, sides_of, sides_of
 use Rattle.bz_std.specs.Floored.{AreFloored}
 use Rattle.bz_std.specs.Meanings.{IsFallAlong}
 use Rattle.bz_std.specs.Tasks.{IsCutOfSplit, moved, node, ones, side_line}
-
--- ---- lists
-all_from_mapped : {X Y : Type 0} (P : Y → Type 0) (f : X → Y) (xs : List X) → AllByRecursion P (map f xs) → AllByRecursion (λ x. P (f x)) xs
-all_from_mapped P f [] h = tt
-all_from_mapped P f (x ∷ xs) h = (h.0, all_from_mapped P f xs h.1)
-
-all_at : {X : Type 0} (P : X → Type 0) (xs : List X) (x : X) → AllByRecursion P xs → Contains xs x → P x
-all_at P [] x h c = absurd (omega (arith, c.1))
-all_at P (y ∷ ys) x h (zero, l, e) = subst P e h.0
-all_at P (y ∷ ys) x h (suc k, l, e) = all_at P ys x h.1 (k, omega arith, e)
+use Rattle.bz_std.proofs.ListFacts.{all_at, all_from_mapped}
 
 -- ---- sums
 dot_entry : (k : ℕ) (z : ℤ) (f : ℕ → ℤ) → dot (entry_at k z) f ≡ z *ℤ f k

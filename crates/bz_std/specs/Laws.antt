@@ -1,12 +1,15 @@
 -- What is proved of programs over variables of either sign and of the programs over columns that stand for them.
-use Rattle.std.specs.Prelude.{ℕ, ◌*◌, ◌<◌, ◌≤◌, ◌≡◌, ℤ, pos, ◌*ℤ◌, ◌≤ℤ◌, ◌<ℤ◌, ◌⊎◌, true, false, List, length}
+use Rattle.std.specs.Prelude.{ℕ, ◌+◌, ◌*◌, ◌<◌, ◌≤◌, ◌≡◌, ◌↔◌, ℤ, pos, ◌*ℤ◌, ◌≤ℤ◌, ◌<ℤ◌, ◌⊎◌, true, false, List, ◌++◌, length}
 use Rattle.std.specs.List.{AllByRecursion}
 use Rattle.bz_algebra.specs.Sums.{dot}
 use Rattle.bz_algebra.specs.Tableaus.{AreAlike}
+use Rattle.bz_model.specs.declared.BlockPart.{BlockPart}
 use Rattle.bz_model.specs.declared.Master.{Master}
 use Rattle.bz_model.specs.declared.Model.{Model}
 use Rattle.bz_model.specs.Decomposed.{IsDecomposed}
-use Rattle.bz_model.specs.Parting.{blocks_of, inequalities_of}
+use Rattle.bz_model.specs.PartPoints.{BlockHolds, HoldsInBlock}
+use Rattle.bz_model.specs.Parting.{blocks_of, inequalities_of, width_of}
+use Rattle.bz_model.specs.Points.{IsWhole, coordinate}
 use Rattle.bz_cut.specs.declared.Cut.{Cut}
 use Rattle.bz_cut.specs.declared.Mode.{Mode}
 use Rattle.bz_cut.specs.declared.Mode.TheVariants as mode
@@ -25,6 +28,7 @@ use Rattle.bz_std.specs.CutsFrom.{BalancesCost, IsCutFrom, IsNoCut, IsSeparation
 use Rattle.bz_std.specs.CutsOfBases.{CutOf}
 use Rattle.bz_std.specs.Floored.{AreFloored, CostFalls, CostIsBalanced}
 use Rattle.bz_std.specs.LeavesFrom.{IsLeafFrom}
+use Rattle.bz_std.specs.LowestForms.{IsLowestOf, MeetsNode}
 use Rattle.bz_std.specs.Meanings.{differences, IsEmptyBy, IsFallAlong, IsLeastAt, IsLeastRise, IsPossible, MeetsWithin}
 use Rattle.bz_std.specs.Posed.{IsPosed, IsProgramOf, Posed}
 use Rattle.bz_std.specs.Tasks.{IsCutOfSplit, IsSeparationLp, floor, node, node_cost, separation}
@@ -111,12 +115,13 @@ pub record TasksArePosed : Type 0 where
       AllByRecursion (IsCutOfSplit part) cuts → IsPosed (node m part box cuts way)
 
 -- Of each block exactly one of the two exists: a direction along which its cost falls and none of its inequalities
--- rises, or multipliers that balance the cost. And a floor's program always has a point.
+-- rises, or multipliers that balance the cost. And a floor's program always has a point, so that none is shown empty.
 pub record FloorsHaveOneEnd : Type 0 where
   pub either : (m : Model) (part : List ℕ) (b : ℕ) → IsDecomposed m part →
       CostFalls m part b ⊎ CostIsBalanced m part b
   pub not_both : (m : Model) (part : List ℕ) (b : ℕ) → IsDecomposed m part →
       CostFalls m part b → ¬ CostIsBalanced m part b
+  pub possible : (m : Model) (part : List ℕ) (b : ℕ) → IsPossible (floor m part b)
   pub never_empty : (m : Model) (part : List ℕ) (b : ℕ) (y : ℕ → ℤ) → ¬ IsEmptyBy (floor m part b) y
 
 -- A node's cost falls along no direction: its columns are bounded, as the partition is strict, and each eta has a floor
@@ -129,7 +134,8 @@ pub record NodesNeverFall : Type 0 where
       ¬ IsFallAlong (node m part box cuts mode.Point) d
 
 -- The cut that an answer of a separation names is that of its basis, and a basis has one cut at most, as have the bases
--- with the same columns, in whatever order: not only do such cuts say the same, they come from the same multipliers.
+-- with the same columns, in whatever order: not only do such cuts say the same, they come from the same multipliers. A
+-- basis, like a program, is of one mode.
 pub record CutsAreOfBases : Type 0 where
   pub of_answer : (m : Model) (part : List ℕ) (point : Master) (b : ℕ) (way : Mode)
       (lp : Lp) (basis : List ℕ) (z y : Vals) (cut : Cut) → IsSeparationLp m part point b way lp →
@@ -142,3 +148,36 @@ pub record CutsAreOfBases : Type 0 where
       AreAlike (length basis) (place basis) (place others) →
       CutOf m part way b basis cut → CutOf m part way b others copy →
       AreSame cut copy × (cut.mu ≡ copy.mu) × (cut.gcd ≡ copy.gcd)
+  pub one_mode : (m : Model) (part : List ℕ) (b : ℕ) (way kind : Mode) (basis : List ℕ) (cut copy : Cut) →
+      CutOf m part way b basis cut → CutOf m part kind b basis copy → way ≡ kind
+  pub one_program_mode : (m : Model) (part : List ℕ) (b : ℕ) (point other : Master) (way kind : Mode) (lp : Lp) →
+      IsSeparationLp m part point b way lp → IsSeparationLp m part other b kind lp → way ≡ kind
+
+-- A point that meets a separation or a node meets it in its lowest form, each inequality by itself, and it is whole
+-- where it was.
+pub record LowestFormsMeet : Type 0 where
+  pub den : (n : ℕ) (den : ℤ) (f : ℕ → ℤ) (low : ℤ) (values : List ℤ) → IsLowestOf n den f low values →
+      (pos 0) <ℤ den → (pos 0) <ℤ low
+  pub whole : (n : ℕ) (den : ℤ) (f : ℕ → ℤ) (low : ℤ) (values : List ℤ) → IsLowestOf n den f low values →
+      (j : ℕ) → j < n → IsWhole (f j) den ↔ IsWhole (coordinate values j) low
+  pub of_block : (m : Model) (part : List ℕ) (point : Master) (b : ℕ) (way : Mode)
+      (v : ℕ → ℤ) (den : ℤ) (block : BlockPart) → IsDecomposed m part →
+      MeetsWithin (separation m part point b way) v den (pos 0) →
+      IsLowestOf (width_of part b) den v block.times block.y →
+      AllByRecursion (HoldsInBlock point block) (inequalities_of m part b)
+  pub of_block_and_cost : (m : Model) (part : List ℕ) (point : Master) (b : ℕ)
+      (v : ℕ → ℤ) (den : ℤ) (block : BlockPart) → IsDecomposed m part →
+      MeetsWithin (separation m part point b mode.Cost) v den (pos 0) →
+      IsLowestOf (width_of part b) den v block.times block.y → BlockHolds m part point b block
+  pub of_node : (m : Model) (part : List ℕ) (box : Box) (cuts : List Cut) (way : Mode)
+      (v : ℕ → ℤ) (den : ℤ) (point : Master) → IsDecomposed m part → AllByRecursion (IsCutOfSplit part) cuts →
+      MeetsWithin (node m part box cuts way) v den (pos 0) → length point.x ≡ width_of part 0 →
+      IsLowestOf (width_of part 0 + blocks_of part) den v point.den (point.x ++ point.eta) →
+      MeetsNode m part box cuts point
+
+-- Numbers over a positive denominator have exactly one lowest form.
+pub record OneLowestForm : Type 0 where
+  pub some : (n : ℕ) (den : ℤ) (f : ℕ → ℤ) → (pos 0) <ℤ den →
+      (low : ℤ) × (values : List ℤ) × IsLowestOf n den f low values
+  pub one : (n : ℕ) (den : ℤ) (f : ℕ → ℤ) (low other : ℤ) (values others : List ℤ) →
+      IsLowestOf n den f low values → IsLowestOf n den f other others → (low ≡ other) × (values ≡ others)

@@ -3,6 +3,7 @@ pub mod CutsOfBases
 pub mod Floored
 pub mod Laws
 pub mod LeavesFrom
+pub mod LowestForms
 pub mod Meanings
 pub mod NodeLines
 pub mod Posed

@@ -1,5 +1,5 @@
 //! What is proved of the programs of a split.
-ghost use Rattle.bz_std.specs.Laws.{AnswersCross, CutsAreOfBases, CutsAreValid, FloorsHaveOneEnd, LeavesAreRight, NodesNeverFall, PointsAreDecided, SeparationsCutOff, TasksArePosed};
+ghost use Rattle.bz_std.specs.Laws.{AnswersCross, CutsAreOfBases, CutsAreValid, FloorsHaveOneEnd, LeavesAreRight, LowestFormsMeet, NodesNeverFall, OneLowestForm, PointsAreDecided, SeparationsCutOff, TasksArePosed};
 
 /// What an answer says of the columns of a program, it says of the variables that they stand for.
 pub fn answers_cross()
@@ -32,8 +32,8 @@ pub fn tasks_are_posed()
     ensures { TasksArePosed }
 {}
 
-/// A block's cost falls along a direction that no inequality forbids, or multipliers of its inequalities balance it, and
-/// never both. No multipliers show that a floor's program has no point.
+/// A block's cost falls along a direction that no inequality forbids, or multipliers of its inequalities balance it,
+/// and never both. A floor's program always has a point.
 pub fn floors_have_one_end()
     ensures { FloorsHaveOneEnd }
 {}
@@ -46,4 +46,14 @@ pub fn nodes_never_fall()
 /// The cut that an answer of a separation names is that of its basis, which has one at most, whatever the point.
 pub fn cuts_are_of_bases()
     ensures { CutsAreOfBases }
+{}
+
+/// A point that meets a separation or a node meets it in its lowest form too, inequality by inequality.
+pub fn lowest_forms_meet()
+    ensures { LowestFormsMeet }
+{}
+
+/// Numbers over a positive denominator have exactly one lowest form.
+pub fn one_lowest_form()
+    ensures { OneLowestForm }
 {}
