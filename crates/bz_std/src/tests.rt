@@ -178,14 +178,21 @@ fn a_node_has_its_box_and_its_cuts(rt: HostRuntime) -> Result<(), Fail> {
     let region = root_box(rt.alloc(), &split)?;
     let mut cuts = Vec::with_capacity(rt.alloc(), 2)?;
     cuts.push(cut(rt.alloc(), 0, 0)?).map_err(|_| OutOfMemory)?;
-    cuts.push(cut(rt.alloc(), -6, -3)?).map_err(|_| OutOfMemory)?;
+    cuts.push(cut(rt.alloc(), -6, -3)?)
+        .map_err(|_| OutOfMemory)?;
     let lp = node_lp(rt.alloc(), &split, &region, cuts.as_slice(), Mode::Cost)?;
     assert_eq!(rt; lp.columns, 4);
     assert_eq!(rt; row_of(&lp, 0), Some(([(0, 1), (1, -1)].as_slice(), 1)));
     assert_eq!(rt; row_of(&lp, 1), Some(([(0, -1), (1, 1)].as_slice(), 0)));
     assert_eq!(rt; row_of(&lp, 2), Some(([(2, -1), (3, 1)].as_slice(), 0)));
-    assert_eq!(rt; row_of(&lp, 3), Some(([(0, -6), (1, 6), (2, -1), (3, 1)].as_slice(), -3)));
+    assert_eq!(rt;
+        row_of(&lp, 3),
+        Some(([(0, -6), (1, 6), (2, -1), (3, 1)].as_slice(), -3))
+    );
     assert_eq!(rt; row_of(&lp, 4), None);
-    assert_eq!(rt; lp.cost.as_slice(), [(0, 2), (1, -2), (2, 1), (3, -1)].as_slice());
+    assert_eq!(rt;
+        lp.cost.as_slice(),
+        [(0, 2), (1, -2), (2, 1), (3, -1)].as_slice()
+    );
     Ok(())
 }
