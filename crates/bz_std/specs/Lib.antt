@@ -1,7 +1,11 @@
 pub mod CutsFrom
 pub mod Laws
 pub mod LeavesFrom
+pub mod LowestForms
+pub mod Making
 pub mod Meanings
+pub mod NumberLists
+pub mod OneRow
 pub mod Posed
 pub mod Stops
 pub mod Tasks

@@ -5,15 +5,27 @@
 
 mod columns;
 mod costs;
+mod cuts;
 mod floors;
 mod laws;
+mod leaves;
+mod making;
+mod multipliers;
+mod reduction;
 mod separation;
 mod stops;
+mod variables;
 
+pub use cuts::{cuts_that_fit_have_narrow_sums, made_cut};
 pub use floors::floor_lp;
 pub use laws::{
     answers_cross, made_cuts_are_valid, made_leaves_hold, points_are_decided, separations_cut_off,
     tasks_are_posed,
 };
+pub use leaves::made_leaf;
+pub use making::MakeStop;
+pub use multipliers::{entries_are_unique, entries_of};
+pub use reduction::lowest;
 pub use separation::separation_lp;
 pub use stops::BuildStop;
+pub use variables::differences;
