@@ -29,7 +29,6 @@ use Rattle.bz_std.specs.Making.{AreNarrowBelow, AreRawNumbers, HasNarrowCutSums,
 use Rattle.bz_std.specs.NumberLists.{HasNumbers}
 use Rattle.bz_std.proofs.Entries.{entries_sum}
 use Rattle.bz_std.proofs.NumberListsMade.{numbers_next}
-use Rattle.bz_std.proofs.OneRowLists.{entries_unique}
 
 -- ---- sums
 pub narrow_more : (i : ℕ) (rows : List Ineq) (mu : List (ℕ × ℤ)) → AreNarrowBelow i rows mu → IsNarrowSum (pairs_at mu (λ n. coef (master_at rows n) i)) → AreNarrowBelow (i + 1) rows mu
@@ -122,7 +121,7 @@ module _ (m : Model) (part : List ℕ) (b : ℕ) (y : ℕ → ℤ) (mu : List (�
 
   pub cut_stops : (s : MakeStop) → StopsSums (width_of part 0) (inequalities_of m part b) mu s → StopsCut m part b y s
   cut_stops stop.OutOfMemory h = tt
-  cut_stops stop.Wide h = λ other f n. h (subst (λ (es : List (ℕ × ℤ)). HasNarrowCutSums m part b es) (entries_unique (length (inequalities_of m part b)) y other mu f e) n)
+  cut_stops stop.Wide h = record { mu = mu; entries = e; wide = h }
 
 -- the sums of a cut that fits
 pub fits_narrow : (m : Model) (part : List ℕ) (cut : Cut) → FitsCut m part cut → HasNarrowCutSums m part cut.block cut.mu

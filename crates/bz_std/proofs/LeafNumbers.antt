@@ -5,16 +5,26 @@ use Rattle.std.specs.Result.{IsErrAnd, IfErr}
 use Rattle.bz_num.specs.declared.WideSum.{WideSum}
 use Rattle.bz_num.specs.Fold.{IsNarrowSum, fold_of, pairs_at}
 use Rattle.bz_num.proofs.NarrowSums.{dot_where_ok, narrow_where_ok, wide_where_err}
+use Rattle.bz_model.specs.declared.Ineq.{Ineq}
+use Rattle.bz_model.specs.declared.Model.{Model}
+use Rattle.bz_model.specs.Parting.{width_of}
+use Rattle.bz_cut.specs.declared.Cut.{Cut}
+use Rattle.bz_cut.specs.declared.Mode.{Mode}
+use Rattle.bz_cut.specs.Rows.{rhs_at}
+use Rattle.bz_tree.specs.declared.Leaf.{Leaf}
+use Rattle.bz_tree.specs.Boxes.{Box}
+use Rattle.bz_tree.specs.Leaves.{sides_of}
+use Rattle.bz_tree.specs.TreeFits.{FitsLeaf}
 use Rattle.bz_tableau.specs.declared.programs.Lp.{Lp}
 use Rattle.bz_tableau.specs.declared.programs.LpRow.{LpRow}
 use Rattle.bz_std.specs.declared.making.MakeStop.{MakeStop}
 use Rattle.bz_std.specs.declared.making.MakeStop.TheVariants as stop
 use Rattle.bz_std.specs.CutsFrom.{AreEntries}
-use Rattle.bz_std.specs.Making.{HasNarrowBound, StopsLeaf}
+use Rattle.bz_std.specs.Making.{HasNarrowSide, HasWideSide}
 use Rattle.bz_std.specs.Meanings.{right_at, sum_right}
 use Rattle.bz_std.specs.Posed.{IsProgramOf, Line, Posed, line_of, line_over_columns}
+use Rattle.bz_std.specs.Tasks.{node, side_line}
 use Rattle.bz_std.proofs.Entries.{entries_sum}
-use Rattle.bz_std.proofs.OneRowLists.{entries_unique}
 
 -- a wide sum that is passed on
 pub stops_wide : {A : Type 0} (P : MakeStop → Type 0) (result : Result A MakeStop) → IsErrAnd result (λ e. e ≡ stop.Wide) → P stop.Wide → IfErr result P
@@ -55,7 +65,20 @@ module _ (q : Posed) (lp : Lp) (h : IsProgramOf q lp) where
     pub bound_narrow : (z : ℤ) → Ok z ≡ fold_of (pairs_at lambda (right_at (map line_of lp.rows))) → IsNarrowSum (pairs_at lambda (right_at q.rows))
     bound_narrow z same = narrow_where_ok (pairs_at lambda (right_at q.rows)) (Ok z) z (same ∙ ap (λ (f : ℕ → ℤ). fold_of (pairs_at lambda f)) right_sides) refl
 
-    pub bound_wide : (w : WideSum) → Err w ≡ fold_of (pairs_at lambda (right_at (map line_of lp.rows))) → (other : List (ℕ × ℤ)) → AreEntries (length q.rows) y other → IsNarrowSum (pairs_at other (right_at q.rows)) → ⊥
-    bound_wide w same other f n =
-        let list : other ≡ lambda = entries_unique (length q.rows) y other lambda f entries_posed in
-        wide_where_err (pairs_at lambda (right_at q.rows)) (Err w) w (same ∙ ap (λ (g : ℕ → ℤ). fold_of (pairs_at lambda g)) right_sides) refl (subst (λ (es : List (ℕ × ℤ)). IsNarrowSum (pairs_at es (right_at q.rows))) list n)
+    pub bound_wide : (w : WideSum) → Err w ≡ fold_of (pairs_at lambda (right_at (map line_of lp.rows))) → HasWideSide q y
+    bound_wide w same = record {
+      lambda = lambda;
+      entries = entries_posed;
+      wide = wide_where_err (pairs_at lambda (right_at q.rows)) (Err w) w (same ∙ ap (λ (g : ℕ → ℤ). fold_of (pairs_at lambda g)) right_sides) refl;
+    }
+
+-- ---- leaves that fit
+right_of_sides : (n : ℕ) (sides : List Ineq) (i : ℕ) → right_at (map (side_line n) sides) i ≡ rhs_at sides i
+right_of_sides n [] i = refl
+right_of_sides n (s ∷ sides) zero = refl
+right_of_sides n (s ∷ sides) (suc i) = right_of_sides n sides i
+
+pub leaf_narrow : (m : Model) (part : List ℕ) (box : Box) (cuts : List Cut) (way : Mode) (leaf : Leaf) → FitsLeaf m part box cuts leaf → HasNarrowSide (node m part box cuts way) leaf.lambda
+leaf_narrow m part box cuts way leaf f =
+    let same : rhs_at (sides_of m part box cuts) ≡ right_at (map (side_line (width_of part 0)) (sides_of m part box cuts)) = λ k i. sym (right_of_sides (width_of part 0) (sides_of m part box cuts) i) k in
+    subst (λ (g : ℕ → ℤ). IsNarrowSum (pairs_at leaf.lambda g)) same f.rhs

@@ -10,9 +10,12 @@ use Rattle.bz_model.specs.declared.Ineq.{Ineq}
 use Rattle.bz_model.specs.declared.Model.{Model}
 use Rattle.bz_model.specs.Parting.{inequalities_of, width_of}
 use Rattle.bz_cut.specs.declared.Cut.{Cut}
+use Rattle.bz_cut.specs.declared.Mode.{Mode}
 use Rattle.bz_cut.specs.Fits.{FitsCut}
 use Rattle.bz_cut.specs.Rows.{master_at, rhs_at}
 use Rattle.bz_tree.specs.declared.Leaf.{Leaf}
+use Rattle.bz_tree.specs.Boxes.{Box}
+use Rattle.bz_tree.specs.TreeFits.{FitsLeaf}
 use Rattle.bz_tableau.specs.declared.programs.Lp.{Lp}
 use Rattle.bz_std.specs.declared.making.MakeStop.{MakeStop}
 use Rattle.bz_std.specs.declared.making.MakeStop.TheVariants as stop
@@ -20,6 +23,7 @@ use Rattle.bz_std.specs.CutsFrom.{AreEntries, IsLowestCut}
 use Rattle.bz_std.specs.LeavesFrom.{IsLeafFrom}
 use Rattle.bz_std.specs.Meanings.{right_at}
 use Rattle.bz_std.specs.Posed.{IsProgramOf, Posed}
+use Rattle.bz_std.specs.Tasks.{node}
 
 -- ---- cuts
 -- what the inequalities say of a position of the master, each times its multiplier
@@ -67,17 +71,16 @@ StopsSums width rows mu stop.Wide = ¬ HasNarrowSums width rows mu
 abbrev pub HasNarrowCutSums : Model → List ℕ → ℕ → List (ℕ × ℤ) → Type 0
 HasNarrowCutSums m part b mu = HasNarrowSums (width_of part 0) (inequalities_of m part b) mu
 
--- The cut of block b is not made for want of memory, or because a sum is wide that the cut's numbers are divided from,
--- as it is in every cut of the block with these multipliers.
+-- a sum is wide that the numbers of the cut of y are divided from
+pub record HasWideCutSum (m : Model) (part : List ℕ) (b : ℕ) (y : ℕ → ℤ) : Type 0 where
+  pub mu : List (ℕ × ℤ)
+  pub entries : AreEntries (length (inequalities_of m part b)) y mu
+  pub wide : ¬ HasNarrowCutSums m part b mu
+
+-- the cut of block b is not made for want of memory, or because of a wide sum
 abbrev pub StopsCut : Model → List ℕ → ℕ → (ℕ → ℤ) → MakeStop → Type 0
 StopsCut m part b y stop.OutOfMemory = Unit {0}
-StopsCut m part b y stop.Wide =
-    (mu : List (ℕ × ℤ)) → AreEntries (length (inequalities_of m part b)) y mu → ¬ HasNarrowCutSums m part b mu
-
--- a cut that fits has narrow sums
-abbrev pub CutsThatFitAreNarrow : Type 0
-CutsThatFitAreNarrow =
-    (m : Model) (part : List ℕ) (cut : Cut) → FitsCut m part cut → HasNarrowCutSums m part cut.block cut.mu
+StopsCut m part b y stop.Wide = HasWideCutSum m part b y
 
 -- The cut of block b with the multipliers mu and raw at its eta, not divided, and with nothing of the other sums: the
 -- sums that tell whether it is valid are those of each cut with these multipliers.
@@ -94,18 +97,39 @@ bare b mu raw h = record {
   beta_narrow = omega arith;
 }
 
+-- Wide sums are those of each cut of the block with these multipliers: none of them fits, and so doesn't the bare one.
+pub record WideCutsDoNotFit : Type 0 where
+  pub of_cut : (m : Model) (part : List ℕ) (cut : Cut) → FitsCut m part cut →
+      HasNarrowCutSums m part cut.block cut.mu
+  pub of_bare : (m : Model) (part : List ℕ) (b : ℕ) (mu : List (ℕ × ℤ)) (raw : ℤ) (h : IsNarrow raw) →
+      ¬ HasNarrowCutSums m part b mu → ¬ FitsCut m part (bare b mu raw h)
+
 -- ---- leaves
 -- the leaf is the one that y and `by` make of the program that is posed, whichever this is
 abbrev pub IsLeafOfProgram : Lp → (ℕ → ℤ) → ℤ → Leaf → Type 0
 IsLeafOfProgram lp y by leaf = (q : Posed) → IsProgramOf q lp → IsLeafFrom q y by leaf
 
 -- the sum of the right sides that makes a bound isn't wide
+abbrev pub HasNarrowSide : Posed → List (ℕ × ℤ) → Type 0
+HasNarrowSide q lambda = IsNarrowSum (pairs_at lambda (right_at q.rows))
+
+-- it isn't, whichever program is posed
 abbrev pub HasNarrowBound : Lp → List (ℕ × ℤ) → Type 0
-HasNarrowBound lp lambda = (q : Posed) → IsProgramOf q lp → IsNarrowSum (pairs_at lambda (right_at q.rows))
+HasNarrowBound lp lambda = (q : Posed) → IsProgramOf q lp → HasNarrowSide q lambda
+
+-- the sum is wide that would make the bound of the leaf of y
+pub record HasWideSide (q : Posed) (y : ℕ → ℤ) : Type 0 where
+  pub lambda : List (ℕ × ℤ)
+  pub entries : AreEntries (length q.rows) y lambda
+  pub wide : ¬ HasNarrowSide q lambda
 
 -- the leaf is not made for want of memory, or because the sum of its bound is wide
 abbrev pub StopsLeaf : Lp → (ℕ → ℤ) → MakeStop → Type 0
 StopsLeaf lp y stop.OutOfMemory = Unit {0}
-StopsLeaf lp y stop.Wide =
-    (q : Posed) → IsProgramOf q lp → (lambda : List (ℕ × ℤ)) → AreEntries (length q.rows) y lambda →
-    ¬ IsNarrowSum (pairs_at lambda (right_at q.rows))
+StopsLeaf lp y stop.Wide = (q : Posed) → IsProgramOf q lp → HasWideSide q y
+
+-- a leaf that fits over a node's box and cuts has a narrow bound
+abbrev pub WideLeavesDoNotFit : Type 0
+WideLeavesDoNotFit =
+    (m : Model) (part : List ℕ) (box : Box) (cuts : List Cut) (way : Mode) (leaf : Leaf) →
+    FitsLeaf m part box cuts leaf → HasNarrowSide (node m part box cuts way) leaf.lambda

@@ -5,8 +5,8 @@ ghost use Rattle.bz_num.specs.Dense.{AreNarrow, entry};
 ghost use Rattle.bz_model.specs.Parting.{blocks_of, inequalities_of};
 ghost use Rattle.bz_cut.specs.Rows.{AreMultipliers};
 ghost use Rattle.bz_std.specs.CutsFrom.{IsCutFrom, IsNoCut};
-ghost use Rattle.bz_std.specs.Making.{AreNarrowBelow, AreRawNumbers, CutsThatFitAreNarrow, HasNarrowCutSums, HasNarrowSums};
-ghost use Rattle.bz_std.specs.Making.{HasSome, IsCutOfNumbers, StopsCut, StopsSums, master_sum};
+ghost use Rattle.bz_std.specs.Making.{AreNarrowBelow, AreRawNumbers, HasNarrowCutSums, HasNarrowSums};
+ghost use Rattle.bz_std.specs.Making.{HasSome, IsCutOfNumbers, StopsCut, StopsSums, WideCutsDoNotFit, master_sum};
 ghost use Rattle.bz_std.specs.NumberLists.{HasNumbers};
 
 use crate::making::MakeStop;
@@ -115,6 +115,6 @@ pub fn made_cut(
 }
 
 /// No cut fits with multipliers for which one of these sums is wide.
-pub fn cuts_that_fit_have_narrow_sums()
-    ensures { CutsThatFitAreNarrow }
+pub fn wide_cuts_do_not_fit()
+    ensures { WideCutsDoNotFit }
 {}

@@ -4,7 +4,7 @@ ghost use Rattle.bz_algebra.specs.Sums.{AllBelow};
 ghost use Rattle.bz_num.specs.Dense.{entry};
 ghost use Rattle.bz_num.specs.Fold.{fold_of, pairs_at};
 ghost use Rattle.bz_tableau.specs.Programs.{IsLp};
-ghost use Rattle.bz_std.specs.Making.{HasNarrowBound, IsLeafOfProgram, StopsLeaf};
+ghost use Rattle.bz_std.specs.Making.{HasNarrowBound, IsLeafOfProgram, StopsLeaf, WideLeavesDoNotFit};
 ghost use Rattle.bz_std.specs.Meanings.{right_at};
 ghost use Rattle.bz_std.specs.Posed.{line_of};
 
@@ -59,3 +59,8 @@ pub fn made_leaf(alloc: Global, lp: &Lp, y: &[i128], by: i128) -> Result<Leaf, M
         bound: narrow_negation(sum),
     })
 }
+
+/// No leaf of a node fits with multipliers for which the sum of its bound is wide.
+pub fn wide_leaves_do_not_fit()
+    ensures { WideLeavesDoNotFit }
+{}

@@ -16,13 +16,13 @@ mod separation;
 mod stops;
 mod variables;
 
-pub use cuts::{cuts_that_fit_have_narrow_sums, made_cut};
+pub use cuts::{made_cut, wide_cuts_do_not_fit};
 pub use floors::floor_lp;
 pub use laws::{
     answers_cross, made_cuts_are_valid, made_leaves_hold, points_are_decided, separations_cut_off,
     tasks_are_posed,
 };
-pub use leaves::made_leaf;
+pub use leaves::{made_leaf, wide_leaves_do_not_fit};
 pub use making::MakeStop;
 pub use multipliers::{entries_are_unique, entries_of};
 pub use reduction::lowest;

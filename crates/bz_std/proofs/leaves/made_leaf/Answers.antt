@@ -20,7 +20,7 @@ pub returns-in_err-sum-clause-stop : goal.returns-in_err-sum-clause-stop
 returns-in_err-sum-clause-stop c =
     let mine : AreEntries (length c.args.lp.now.rows) (entry c.args.y.now) c.in_ok-lambda.lambda = rw c.as_slice-rows.ensures at c.in_ok-lambda.ensures in
     let wide : Err c.in_err-sum.field-0.0 ≡ fold_of (pairs_at c.in_ok-lambda.lambda (right_at (map line_of c.args.lp.now.rows))) = rw c.as_slice-rows.ensures at c.in_err-sum.ensures in
-    stops_wide (StopsLeaf c.args.lp.now (entry c.args.y.now)) c.from_residual-in_err-sum.result c.from_residual-in_err-sum.ensures.1 (λ q h other f. bound_wide q c.args.lp.now h (entry c.args.y.now) c.in_ok-lambda.lambda mine c.in_err-sum.field-0.0 wide other f)
+    stops_wide (StopsLeaf c.args.lp.now (entry c.args.y.now)) c.from_residual-in_err-sum.result c.from_residual-in_err-sum.ensures.1 (λ q h. bound_wide q c.args.lp.now h (entry c.args.y.now) c.in_ok-lambda.lambda mine c.in_err-sum.field-0.0 wide)
 
 pub narrow_negation-requires : goal.narrow_negation-requires
 narrow_negation-requires c =
