@@ -1,5 +1,5 @@
 -- The numbers of a cut before their division, and the cut that they make.
-use Rattle.std.proofs.Common.{◌≡◌, ◌≢◌, refl, sym, ap, subst, ◌∙◌, inl, inr, ℕ, ◌+◌, ◌<◌, ◌≤◌, List, [], ◌∷◌, ◌++◌, length, arith, ℤ, pos, ◌*ℤ◌, ◌<ℤ◌, ◌≤ℤ◌}
+use Rattle.std.proofs.Common.{◌≡◌, sym, subst, ◌∙◌, inl, inr, ℕ, ◌+◌, ◌<◌, List, [], ◌∷◌, ◌++◌, length, arith, ℤ, pos, ◌<ℤ◌, ◌≤ℤ◌}
 use Rattle.std.proofs.Math.ListN.{get_or-append}
 use Rattle.std.proofs.Math.Nat.{eq-zero_of_zero-dvd}
 use Rattle.std.proofs.Math.Seq.{get_or-append_seam}
@@ -10,7 +10,7 @@ use Rattle.std.specs.Int.RustNames.{unsigned_abs}
 use Rattle.bz_algebra.specs.Numbers.{IsNarrow}
 use Rattle.bz_algebra.specs.Sums.{coef, dot}
 use Rattle.bz_algebra.proofs.Ring.{by_sign, positive-ne}
-use Rattle.bz_num.specs.Dense.{AreNarrow, DividesRow, IsDivided, IsDivisorOf, entry}
+use Rattle.bz_num.specs.Dense.{DividesRow, IsDivided, IsDivisorOf, entry}
 use Rattle.bz_num.specs.Fold.{IsNarrowSum, pairs_at}
 use Rattle.bz_num.specs.Primitive.{DividesAll}
 use Rattle.bz_num.proofs.Coefs.{divides-coef}
@@ -25,7 +25,7 @@ use Rattle.bz_cut.specs.Rows.{master_at, rhs_at}
 use Rattle.bz_std.specs.declared.making.MakeStop.{MakeStop}
 use Rattle.bz_std.specs.declared.making.MakeStop.TheVariants as stop
 use Rattle.bz_std.specs.CutsFrom.{AreEntries, IsCutFrom, IsNoCut}
-use Rattle.bz_std.specs.Making.{AreNarrowBelow, AreRawNumbers, HasNarrowCutSums, HasNarrowSums, HasSome, IsCutOfNumbers, StopsCut, StopsSums, bare, master_sum}
+use Rattle.bz_std.specs.Making.{AreNarrowBelow, AreRawNumbers, HasNarrowCutSums, HasSome, IsCutOfNumbers, StopsCut, StopsSums, bare, master_sum}
 use Rattle.bz_std.specs.NumberLists.{HasNumbers}
 use Rattle.bz_std.proofs.Entries.{entries_sum}
 use Rattle.bz_std.proofs.NumberListsMade.{numbers_next}

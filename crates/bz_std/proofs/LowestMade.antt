@@ -1,5 +1,5 @@
 -- Numbers divided by their greatest common divisor.
-use Rattle.std.proofs.Common.{◌≡◌, ◌≢◌, sym, ap, subst, ◌∙◌, ℕ, ◌*◌, ◌<◌, List, length, take, drop, ◌++◌, arith, ℤ, pos, ◌*ℤ◌, ◌<ℤ◌, ◌≤ℤ◌}
+use Rattle.std.proofs.Common.{◌≡◌, ◌≢◌, sym, ap, subst, ◌∙◌, ℕ, ◌*◌, List, length, take, drop, ◌++◌, arith, ℤ, pos, ◌*ℤ◌, ◌<ℤ◌, ◌≤ℤ◌}
 use Rattle.std.proofs.Math.Nat.{dvd_of_mul-dvd-mul_left, dvd_trans, eq-one_of_dvd-one, eq-zero_of_zero-dvd, mul-dvd-mul_left}
 use Rattle.std.proofs.Math.Seq.{take-length}
 use Rattle.std.proofs.lemmas.Int.{ints, unsigned_abs-mul}

@@ -1,11 +1,11 @@
 -- Lists of the numbers of a function, one number more.
-use Rattle.std.proofs.Common.{◌≡◌, refl, sym, ap, subst, ◌∙◌, inl, inr, ℕ, ◌+◌, ◌<◌, List, [], ◌∷◌, ◌++◌, length, arith, ℤ, pos}
+use Rattle.std.proofs.Common.{◌≡◌, refl, sym, subst, ◌∙◌, inl, inr, ℕ, ◌+◌, ◌<◌, List, [], ◌∷◌, ◌++◌, length, arith, ℤ, pos}
 use Rattle.std.proofs.Math.ListN.{get_or-append}
 use Rattle.std.proofs.Math.Seq.{get_or-append_seam}
 use Rattle.std.proofs.lemmas.Bool.{cases_eq}
 use Rattle.std.proofs.lemmas.List.{length-append}
 use Rattle.bz_algebra.specs.Numbers.{IsNarrow}
-use Rattle.bz_num.specs.Dense.{AreNarrow, entry}
+use Rattle.bz_num.specs.Dense.{entry}
 use Rattle.bz_std.specs.NumberLists.{HasNumbers}
 
 pub numbers_none : (f : ℕ → ℤ) → HasNumbers 0 f []

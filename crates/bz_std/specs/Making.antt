@@ -1,5 +1,5 @@
 -- Cuts and leaves in the making: their numbers before the division, and why one is not made.
-use Rattle.std.specs.Prelude.{ℕ, ◌+◌, ◌<◌, ◌≡◌, ℤ, pos, ◌*ℤ◌, ◌<ℤ◌, List, [], length}
+use Rattle.std.specs.Prelude.{ℕ, ◌+◌, ◌<◌, ◌≡◌, ℤ, pos, ◌*ℤ◌, ◌≤ℤ◌, ◌<ℤ◌, List, [], length}
 use Rattle.std.proofs.Common.{arith}
 use Rattle.bz_algebra.specs.Numbers.{IsNarrow}
 use Rattle.bz_algebra.specs.Sums.{AllBelow, coef, dot}
@@ -24,6 +24,10 @@ use Rattle.bz_std.specs.LeavesFrom.{IsLeafFrom}
 use Rattle.bz_std.specs.Meanings.{right_at}
 use Rattle.bz_std.specs.Posed.{IsProgramOf, Posed}
 use Rattle.bz_std.specs.Tasks.{node}
+
+-- the first n numbers of y aren't negative
+abbrev pub AreNonnegativeTo : ℕ → (ℕ → ℤ) → Type 0
+AreNonnegativeTo n y = (i : ℕ) → i < n → (pos 0) ≤ℤ (y i)
 
 -- ---- cuts
 -- what the inequalities say of a position of the master, each times its multiplier

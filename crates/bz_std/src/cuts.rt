@@ -1,11 +1,11 @@
 //! The cut that an answer of a block's program makes.
-ghost use Rattle.std.specs.Prelude.{◌≡◌, ◌<◌, ◌≤◌, ◌+◌, ℕ, pos, ◌≤ℤ◌, IfErr, IfOk, length};
+ghost use Rattle.std.specs.Prelude.{◌≡◌, ◌<◌, ◌≤◌, ◌+◌, pos, ◌≤ℤ◌, IfErr, IfOk, length};
 ghost use Rattle.bz_algebra.specs.Numbers.{IsNarrow};
 ghost use Rattle.bz_num.specs.Dense.{AreNarrow, entry};
 ghost use Rattle.bz_model.specs.Parting.{blocks_of, inequalities_of};
 ghost use Rattle.bz_cut.specs.Rows.{AreMultipliers};
 ghost use Rattle.bz_std.specs.CutsFrom.{IsCutFrom, IsNoCut};
-ghost use Rattle.bz_std.specs.Making.{AreNarrowBelow, AreRawNumbers, HasNarrowCutSums, HasNarrowSums};
+ghost use Rattle.bz_std.specs.Making.{AreNarrowBelow, AreNonnegativeTo, AreRawNumbers, HasNarrowCutSums, HasNarrowSums};
 ghost use Rattle.bz_std.specs.Making.{HasSome, IsCutOfNumbers, StopsCut, StopsSums, WideCutsDoNotFit, master_sum};
 ghost use Rattle.bz_std.specs.NumberLists.{HasNumbers};
 
@@ -100,7 +100,7 @@ pub fn made_cut(
 ) -> Result<Cut, MakeStop>
     requires last { block ≤ blocks_of split.now.part }
     requires inside { length (inequalities_of split.now.model split.now.part block) ≤ length y.now }
-    requires multipliers { (n : ℕ) → n < length (inequalities_of split.now.model split.now.part block) → pos 0 ≤ℤ entry y.now n }
+    requires multipliers { AreNonnegativeTo (length (inequalities_of split.now.model split.now.part block)) (entry y.now) }
     requires nonnegative { pos 0 ≤ℤ raw }
     requires some { IsNoCut split.now.model split.now.part block (entry y.now) raw → ⊥ }
     ensures cut { IfOk result (IsCutFrom split.now.model split.now.part block (entry y.now) raw) }

@@ -1,10 +1,10 @@
 //! The leaf that an answer of a node's program makes.
-ghost use Rattle.std.specs.Prelude.{◌≡◌, ◌<◌, ◌≤◌, ℕ, pos, ◌≤ℤ◌, IfErr, IfOk, length, map};
+ghost use Rattle.std.specs.Prelude.{◌≡◌, ◌<◌, ◌≤◌, pos, ◌≤ℤ◌, IfErr, IfOk, length, map};
 ghost use Rattle.bz_algebra.specs.Sums.{AllBelow};
 ghost use Rattle.bz_num.specs.Dense.{entry};
 ghost use Rattle.bz_num.specs.Fold.{fold_of, pairs_at};
 ghost use Rattle.bz_tableau.specs.Programs.{IsLp};
-ghost use Rattle.bz_std.specs.Making.{HasNarrowBound, IsLeafOfProgram, StopsLeaf, WideLeavesDoNotFit};
+ghost use Rattle.bz_std.specs.Making.{AreNonnegativeTo, HasNarrowBound, IsLeafOfProgram, StopsLeaf, WideLeavesDoNotFit};
 ghost use Rattle.bz_std.specs.Meanings.{right_at};
 ghost use Rattle.bz_std.specs.Posed.{line_of};
 
@@ -44,7 +44,7 @@ fn right_sum(lambda: &SparseRow, rows: &[LpRow]) -> Result<i128, WideSum>
 pub fn made_leaf(alloc: Global, lp: &Lp, y: &[i128], by: i128) -> Result<Leaf, MakeStop>
     requires is_lp { IsLp lp.now }
     requires inside { length lp.now.rows ≤ length y.now }
-    requires multipliers { (i : ℕ) → i < length lp.now.rows → pos 0 ≤ℤ entry y.now i }
+    requires multipliers { AreNonnegativeTo (length lp.now.rows) (entry y.now) }
     requires nonnegative { pos 0 ≤ℤ by }
     ensures leaf { IfOk result (IsLeafOfProgram lp.now (entry y.now) by) }
     ensures narrow { IfOk result (λ leaf. HasNarrowBound lp.now leaf.lambda) }

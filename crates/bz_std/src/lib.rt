@@ -1,4 +1,5 @@
-//! The three programs of a split, of a node, of a separation and of a floor, and the laws of what their answers make.
+//! The three programs of a split, of a node, of a separation and of a floor, the cuts, leaves and numbers that their
+//! answers make, and the laws of these.
 //!
 //! This crate solves none of them, and knows no search.
 #![tactic(auto)]
@@ -29,3 +30,6 @@ pub use reduction::lowest;
 pub use separation::separation_lp;
 pub use stops::BuildStop;
 pub use variables::differences;
+
+#[cfg(test)]
+mod back_tests;

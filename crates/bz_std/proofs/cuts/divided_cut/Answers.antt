@@ -1,9 +1,8 @@
-use Rattle.std.proofs.Common.{rules, ◌≡◌, refl, sym, ap, ◌+◌, ℤ, pos, ◌<ℤ◌, List, FitsSigned, to_z-of_z}
+use Rattle.std.proofs.Common.{rules, ◌+◌, ℤ, pos, ◌<ℤ◌, List, FitsSigned, to_z-of_z}
 use Rattle.std.specs.Int.{w128}
 use Rattle.std.specs.Int.RustNames.{unsigned_abs}
 use Rattle.bz_algebra.proofs.Ring.{positive-ne}
 use Rattle.bz_num.specs.Dense.{IsDivided, IsDivisorOf, entry}
-use Rattle.bz_std.specs.CutsFrom.{AreEntries}
 use Rattle.bz_std.proofs.CutNumbers.{divided_numbers, some_divisor}
 use Rattle.bz_std.proofs.cuts.divided_cut.Goals as goal
 

@@ -1,5 +1,4 @@
-use Rattle.std.proofs.Common.{rules, ◌≡◌, ℕ, ◌<◌, length, ℤ, List, FitsSigned, to_z-of_z}
-use Rattle.std.specs.Int.{w128}
+use Rattle.std.proofs.Common.{◌<◌, length, to_z-of_z}
 use Rattle.bz_num.specs.Dense.{entry}
 use Rattle.bz_model.specs.Parting.{inequalities_of, width_of}
 use Rattle.bz_std.specs.CutsFrom.{AreEntries}

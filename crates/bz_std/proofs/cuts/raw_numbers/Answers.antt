@@ -1,6 +1,6 @@
 use Rattle.std.proofs.Common.{rules, ◌≡◌, refl, sym, [], ◌∷◌, ◌++◌, Ok, Err, FitsSigned, to_z-of_z}
 use Rattle.std.specs.Int.{w128}
-use Rattle.bz_num.specs.Fold.{fold_of, pairs_at}
+use Rattle.bz_num.specs.Fold.{pairs_at}
 use Rattle.bz_num.proofs.NarrowSums.{dot_where_ok, narrow_where_ok, result_narrow, wide_where_err}
 use Rattle.bz_cut.specs.Rows.{rhs_at}
 use Rattle.bz_std.specs.Making.{StopsSums}

@@ -1,4 +1,4 @@
-use Rattle.std.proofs.Common.{rules, ◌≡◌, ◌∙◌, sym, ap, ℕ, ◌<◌, length, map, ℤ, pos, neg_ℤ, Ok, Err, FitsSigned, to_z-of_z}
+use Rattle.std.proofs.Common.{rules, ◌≡◌, ◌∙◌, sym, ap, ◌<◌, length, map, neg_ℤ, Ok, Err, FitsSigned, to_z-of_z}
 use Rattle.std.specs.Int.{w128}
 use Rattle.bz_num.specs.Dense.{entry}
 use Rattle.bz_num.specs.Fold.{fold_of, pairs_at}

@@ -1,4 +1,4 @@
-use Rattle.std.proofs.Common.{rules, ◌≡◌, refl, ◌++◌, get_or, ℤ, pos, FitsSigned, to_z-of_z}
+use Rattle.std.proofs.Common.{rules, ◌≡◌, refl, ◌++◌, ℤ, FitsSigned, to_z-of_z}
 use Rattle.std.specs.Int.{w128}
 use Rattle.bz_num.specs.Dense.{entry}
 use Rattle.bz_num.specs.Row.{entry_at}

@@ -1,5 +1,4 @@
-use Rattle.std.proofs.Common.{rules, ◌≡◌, sym, ℤ, pos, ◌<ℤ◌, FitsSigned, to_z-of_z, arith}
-use Rattle.std.proofs.lemmas.Int.{ints}
+use Rattle.std.proofs.Common.{rules, pos, ◌<ℤ◌, FitsSigned, to_z-of_z}
 use Rattle.std.specs.Int.{w128, IsGcd}
 use Rattle.std.specs.Int.RustNames.{unsigned_abs}
 use Rattle.bz_algebra.proofs.Ring.{positive-ne}
