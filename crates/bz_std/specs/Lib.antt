@@ -4,8 +4,11 @@ pub mod Floored
 pub mod Laws
 pub mod LeavesFrom
 pub mod LowestForms
+pub mod Making
 pub mod Meanings
 pub mod NodeLines
+pub mod NumberLists
+pub mod OneRow
 pub mod Posed
 pub mod Stops
 pub mod Tasks
