@@ -30,17 +30,17 @@ use Rattle.bz_cert.specs.Shapes.{HasCutsOf, HasPartsOf, HasTreeOf, IsShaped}
 -- ---- how long lists are
 module _ (d : Decomposition) (s : IsSplit d) where
   few_inequalities : (b : ℕ) → length (inequalities_of d.model d.part b) ≤ 2 ^ 30
-  few_inequalities b = let l = length-inequalities d.model d.part b in omega (arith, l, s.limits.columns, s.limits.rows)
+  few_inequalities b = let l = length-inequalities d.model d.part b in omega (arith, l, d.model.few_columns, d.model.few_rows)
 
   narrow_master : width_of d.part 0 ≤ 2 ^ 28
   narrow_master =
       let most : width_of d.part 0 ≤ length d.part = count_by-le-length (λ c. nat_eq c 0) d.part in
-      omega (arith, most, s.partition.numbers, s.limits.columns)
+      omega (arith, most, s.partition.numbers, d.model.few_columns)
 
   few_integers : length (integers_of d.model) ≤ 2 ^ 28
   few_integers =
       let i : length (integers_of d.model) ≤ length d.model.columns = omega (arith, length-filter (λ (e : ℕ × Column). e.1.integer) (enumerate_from 0 d.model.columns), count_by-le-length (λ (e : ℕ × Column). e.1.integer) (enumerate_from 0 d.model.columns), length-enumerate_from 0 d.model.columns) in
-      omega (arith, i, s.limits.columns)
+      omega (arith, i, d.model.few_columns)
 
 length-sides_of_box : (part : List ℕ) (box : Box) (n : ℕ) (es : List (ℕ × Column)) → length (flat_map (sides_of_box part box) (enumerate_from n es)) ≡ 2 * length es
 length-sides_of_box part box n [] = omega arith
