@@ -11,3 +11,10 @@ abbrev pub WhereTold : {A : Type 0} → (A → A → Type 0) → Option A → Op
 WhereTold Goes None after = Unit {0}
 WhereTold Goes (Some before) None = ⊥
 WhereTold Goes (Some before) (Some after) = Goes before after
+
+-- The same, and where nothing was told, nothing is told afterwards.
+abbrev pub KeepsTelling : {A : Type 0} → (A → A → Type 0) → Option A → Option A → Type 0
+KeepsTelling Goes None None = Unit {0}
+KeepsTelling Goes None (Some after) = ⊥
+KeepsTelling Goes (Some before) None = ⊥
+KeepsTelling Goes (Some before) (Some after) = Goes before after

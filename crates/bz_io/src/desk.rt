@@ -2,7 +2,7 @@
 ghost use Rattle.std.specs.Prelude.{◌≤◌, length, Option, IfOk, is_err};
 ghost use Rattle.bz_io.specs.declared.faults.FaultCount.{FaultCount};
 ghost use Rattle.bz_io.specs.Faults.{Counts};
-ghost use Rattle.bz_io.specs.Told.{IfTold, WhereTold};
+ghost use Rattle.bz_io.specs.Told.{IfTold, KeepsTelling};
 ghost use Rattle.bz_io.specs.Desk.{Telling, Loads, IsAfterLoads, is_failed, Saves};
 
 use std::alloc::Global;
@@ -38,12 +38,12 @@ pub trait Desk {
     fn load(&mut self, alloc: Global, name: &str, limit: usize) -> Result<Vec<u8>, LoadError>
         ensures answer { IfTold (told self.old) (λ told. Loads told name.now limit result) }
         ensures within { IfOk result (λ bytes. length bytes.items ≤ limit) }
-        ensures kept { WhereTold (IsAfterLoads 1) (told self.old) (told self.new) }
+        ensures kept { KeepsTelling (IsAfterLoads 1) (told self.old) (told self.new) }
         ensures count { Counts (is_failed result) (faults self.old) (faults self.new) };
 
     /// Makes the name hold the bytes. Each other name holds afterwards what it held before. After a failure the name
     /// holds a prefix of the bytes or what it held before.
     fn save(&mut self, name: &str, bytes: &[u8]) -> Result<(), SaveError>
-        ensures answer { WhereTold (Saves name.now bytes.now result) (told self.old) (told self.new) }
+        ensures answer { KeepsTelling (Saves name.now bytes.now result) (told self.old) (told self.new) }
         ensures count { Counts (is_err result) (faults self.old) (faults self.new) };
 }

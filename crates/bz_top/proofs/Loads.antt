@@ -1,12 +1,11 @@
 -- What loads give and why they refuse, in terms of the contents of the desk.
 use Rattle.std.proofs.Common.{◌≡◌, ◌⊎◌, inl, inr, ℕ, ◌<◌, ◌≤◌, Bool, true, false, List, length, Option, Some, None, Vec, Global, ap, refl, subst, sym, ◌∙◌, arith}
-use Rattle.std.specs.Prelude.{Result, Ok, Err, IsErrAnd, IfErr, IfOk, OnOk, ◌+◌, slice_index_or}
+use Rattle.std.specs.Prelude.{Result, Ok, Err, IsErrAnd, IfErr, IfOk, OnOk, ◌+◌}
 use Rattle.bz_io.specs.declared.desk.LoadError.{LoadError}
 use Rattle.bz_io.specs.declared.desk.LoadError.TheVariants.{Failed, TooLong}
 use Rattle.bz_io.specs.Desk.{IsAfterLoads, IsSame, Loads, LoadsText, Telling}
-use Rattle.bz_io.specs.Told.{IfTold, WhereTold}
+use Rattle.bz_io.specs.Told.{IfTold, KeepsTelling, WhereTold}
 use Rattle.bz_model.specs.declared.Model.{Model}
-use Rattle.bz_model.specs.Parting.{blocks_of}
 use Rattle.bz_model.specs.Splits.{Decomposition, IsSplit}
 use Rattle.bz_model.specs.Strict.{IsStrict}
 use Rattle.bz_facts.specs.declared.MpsFault.{MpsFault}
@@ -33,8 +32,10 @@ pub at_first : (told : Option Telling) → WhereTold (IsAfterLoads 0) told told
 at_first None = tt
 at_first (Some desk) = record { same = λ name. refl; later = λ n. ap desk.fails (omega arith) }
 
-pub after_both : (k n : ℕ) (a b c : Option Telling) → WhereTold (IsAfterLoads k) a b → WhereTold (IsAfterLoads n) b c → WhereTold (IsAfterLoads (k + n)) a c
-after_both k n None b c p q = tt
+pub after_both : (k n : ℕ) (a b c : Option Telling) → KeepsTelling (IsAfterLoads k) a b → KeepsTelling (IsAfterLoads n) b c → KeepsTelling (IsAfterLoads (k + n)) a c
+after_both k n None None None p q = tt
+after_both k n None None (Some z) p q = absurd q
+after_both k n None (Some y) c p q = absurd p
 after_both k n (Some x) None c p q = absurd p
 after_both k n (Some x) (Some y) None p q = absurd q
 after_both k n (Some x) (Some y) (Some z) p q = record {
@@ -42,14 +43,23 @@ after_both k n (Some x) (Some y) (Some z) p q = record {
   later = λ i. q.later i ∙ p.later (n + i) ∙ ap x.fails (omega arith);
 }
 
+-- what a desk told at first, that it goes on telling
+pub where_told : (n : ℕ) (a b : Option Telling) → KeepsTelling (IsAfterLoads n) a b → WhereTold (IsAfterLoads n) a b
+where_told n None b p = tt
+where_told n (Some x) None p = absurd p
+where_told n (Some x) (Some y) p = p
+
 -- names that stay
-pub same_after : (n : ℕ) (a b : Option Telling) → WhereTold (IsAfterLoads n) a b → WhereTold IsSame a b
-same_after n None b p = tt
+pub same_after : (n : ℕ) (a b : Option Telling) → KeepsTelling (IsAfterLoads n) a b → KeepsTelling IsSame a b
+same_after n None None p = tt
+same_after n None (Some y) p = absurd p
 same_after n (Some x) None p = absurd p
 same_after n (Some x) (Some y) p = p.same
 
-pub same_then : (a b c : Option Telling) → WhereTold IsSame a b → WhereTold IsSame b c → WhereTold IsSame a c
-same_then None b c p q = tt
+pub same_then : (a b c : Option Telling) → KeepsTelling IsSame a b → KeepsTelling IsSame b c → KeepsTelling IsSame a c
+same_then None None None p q = tt
+same_then None None (Some z) p q = absurd q
+same_then None (Some y) c p q = absurd p
 same_then (Some x) None c p q = absurd p
 same_then (Some x) (Some y) None p q = absurd q
 same_then (Some x) (Some y) (Some z) p q = λ name. q name ∙ p name

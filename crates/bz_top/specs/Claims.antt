@@ -1,5 +1,5 @@
 -- What the program claims of a job.
-use Rattle.std.specs.Prelude.{ℕ, ℤ, ◌≡◌, ◌⊎◌, ◌<◌, ◌≤◌, ◌+◌, ◌*◌, List, length, Option, Some, None, true, false, Result, Ok, Err, slice_index_or}
+use Rattle.std.specs.Prelude.{ℕ, ℤ, ◌≡◌, ◌⊎◌, ◌<◌, ◌≤◌, ◌*◌, List, length, Option, Some, None, true, false, Result, Ok, Err}
 use Rattle.bz_algebra.specs.Fractions.{IsSameNumber}
 use Rattle.bz_io.specs.declared.faults.FaultCount.{FaultCount}
 use Rattle.bz_io.specs.Desk.{Telling}
@@ -8,7 +8,6 @@ use Rattle.bz_io.specs.Sink.{Takes, TakesPrefix}
 use Rattle.bz_io.specs.Told.{WhereTold}
 use Rattle.bz_model.specs.declared.Model.{Model}
 use Rattle.bz_model.specs.declared.Parts.{Parts}
-use Rattle.bz_model.specs.Parting.{blocks_of}
 use Rattle.bz_model.specs.Splits.{Decomposition}
 use Rattle.bz_model.specs.Points.{objective, IsOptimal, IsInfeasible, IsUnbounded}
 use Rattle.bz_model.specs.Strict.{IsStrict}

@@ -4,7 +4,7 @@ ghost use Rattle.bz_cert.specs.Shapes.{IsShaped};
 ghost use Rattle.bz_cert.specs.Fits.{Fits};
 ghost use Rattle.bz_cert.specs.Passing.{Passes};
 ghost use Rattle.bz_io.specs.Desk.{IsAfterLoads, IsSame};
-ghost use Rattle.bz_io.specs.Told.{WhereTold};
+ghost use Rattle.bz_io.specs.Told.{KeepsTelling};
 ghost use Rattle.bz_model.specs.Splits.{IsSplit};
 ghost use Rattle.bz_top.specs.Claims.{CountsFiles, HasCert, IsCause};
 ghost use Rattle.bz_top.specs.Loads.{Certified, EndsDecomposed, Reached, RefusesCheck, Says, ShownHolding, SinceFirst};
@@ -26,7 +26,7 @@ fn load_cert<D: Desk>(alloc: Global, job: &Job, desk: &mut D) -> Result<Certific
     ensures reads { SinceFirst 2 (D.told desk.old) (λ told. IfOk result (Certified told job.now)) }
     ensures shaped { IfOk result IsShaped }
     ensures cause { SinceFirst 2 (D.told desk.old) (λ told. Reached told job.now CertFile → IfErr result (IsCause told job.now)) }
-    ensures kept { WhereTold (IsAfterLoads 1) (D.told desk.old) (D.told desk.new) }
+    ensures kept { KeepsTelling (IsAfterLoads 1) (D.told desk.old) (D.told desk.new) }
     ensures count { CountsFiles result (D.faults desk.old) (D.faults desk.new) }
 {
     let text = load_file(alloc, job, File::Cert, desk)?;
@@ -84,7 +84,7 @@ pub(crate) fn check_files<D: Desk>(
     ensures shown { IfOk result (ShownHolding (D.told desk.old) job.now) }
     ensures cause { IfErr result (IsCause (D.told desk.old) job.now) }
     ensures decomposed { EndsDecomposed (D.told desk.old) job.now result }
-    ensures kept { WhereTold IsSame (D.told desk.old) (D.told desk.new) }
+    ensures kept { KeepsTelling IsSame (D.told desk.old) (D.told desk.new) }
     ensures count { CountsFiles result (D.faults desk.old) (D.faults desk.new) }
 {
     let split = load_split(alloc, job, desk)?;

@@ -1,7 +1,7 @@
 //! The model, the partition and the split of a job, from its files.
 ghost use Rattle.std.specs.Prelude.{◌≡◌, ◌≤◌, length, IfErr, IfOk, OnOk};
 ghost use Rattle.bz_io.specs.Desk.{IsAfterLoads, IsSame};
-ghost use Rattle.bz_io.specs.Told.{WhereTold};
+ghost use Rattle.bz_io.specs.Told.{KeepsTelling};
 ghost use Rattle.bz_model.specs.Splits.{IsSplit};
 ghost use Rattle.bz_model.specs.Strict.{HasItsColumns, IsPartition};
 ghost use Rattle.bz_top.specs.Claims.{CountsFiles, IsCause, limit_of, load_of};
@@ -49,7 +49,7 @@ pub(crate) fn load_file<D: Desk>(
 ) -> Result<Vec<u8>, Refusal>
     ensures within { IfOk result (λ bytes. length bytes.items ≤ limit_of file) }
     ensures answer { SinceFirst (load_of file) (D.told desk.old) (λ told. AnswersFile told job.now file result) }
-    ensures kept { WhereTold (IsAfterLoads 1) (D.told desk.old) (D.told desk.new) }
+    ensures kept { KeepsTelling (IsAfterLoads 1) (D.told desk.old) (D.told desk.new) }
     ensures count { CountsFiles result (D.faults desk.old) (D.faults desk.new) }
 {
     match desk.load(alloc, file_name(job, file), limit(file)) {
@@ -66,7 +66,7 @@ pub(crate) fn load_model<D: Desk>(alloc: Global, job: &Job, desk: &mut D) -> Res
     ensures columns { IfOk result HasItsColumns }
     ensures cause { IfErr result (IsCause (D.told desk.old) job.now) }
     ensures early { IfErr result IsEarly }
-    ensures kept { WhereTold (IsAfterLoads 1) (D.told desk.old) (D.told desk.new) }
+    ensures kept { KeepsTelling (IsAfterLoads 1) (D.told desk.old) (D.told desk.new) }
     ensures count { CountsFiles result (D.faults desk.old) (D.faults desk.new) }
 {
     let text = load_file(alloc, job, File::Model, desk)?;
@@ -89,7 +89,7 @@ pub(crate) fn load_part<D: Desk>(
     ensures cause { SinceFirst 1 (D.told desk.old) (λ told. Modelled told job.now model.now → IfErr result (IsCause told job.now)) }
     ensures partition { IfOk result (IsPartition model.now) }
     ensures early { IfErr result IsEarly }
-    ensures kept { WhereTold (IsAfterLoads 1) (D.told desk.old) (D.told desk.new) }
+    ensures kept { KeepsTelling (IsAfterLoads 1) (D.told desk.old) (D.told desk.new) }
     ensures count { CountsFiles result (D.faults desk.old) (D.faults desk.new) }
 {
     let text = load_file(alloc, job, File::Part, desk)?;
@@ -121,8 +121,8 @@ pub(crate) fn load_split<D: Desk>(alloc: Global, job: &Job, desk: &mut D) -> Res
     ensures split { IfOk result IsSplit }
     ensures cause { IfErr result (IsCause (D.told desk.old) job.now) }
     ensures early { IfErr result IsEarly }
-    ensures loads { OnOk result (WhereTold (IsAfterLoads 2) (D.told desk.old) (D.told desk.new)) }
-    ensures kept { WhereTold IsSame (D.told desk.old) (D.told desk.new) }
+    ensures loads { OnOk result (KeepsTelling (IsAfterLoads 2) (D.told desk.old) (D.told desk.new)) }
+    ensures kept { KeepsTelling IsSame (D.told desk.old) (D.told desk.new) }
     ensures count { CountsFiles result (D.faults desk.old) (D.faults desk.new) }
 {
     let model = load_model(alloc, job, desk)?;

@@ -1,7 +1,7 @@
 //! The parts of a split, from the files of a job.
 ghost use Rattle.std.specs.Prelude.{IfErr, IfOk};
 ghost use Rattle.bz_io.specs.Desk.{IsSame};
-ghost use Rattle.bz_io.specs.Told.{WhereTold};
+ghost use Rattle.bz_io.specs.Told.{KeepsTelling};
 ghost use Rattle.bz_model.specs.Splits.{IsSplit};
 ghost use Rattle.bz_split.specs.Counts.{AreRowCounts};
 ghost use Rattle.bz_top.specs.Claims.{CountsFiles, HasNoCert, IsCause};
@@ -27,7 +27,7 @@ pub(crate) fn split_files<D: Desk>(
     ensures rows { IfOk result (λ r. AreRowCounts r.0 r.1.items) }
     ensures cause { IfErr result (IsCause (D.told desk.old) job.now) }
     ensures decomposed { EndsDecomposed (D.told desk.old) job.now result }
-    ensures kept { WhereTold IsSame (D.told desk.old) (D.told desk.new) }
+    ensures kept { KeepsTelling IsSame (D.told desk.old) (D.told desk.new) }
     ensures count { CountsFiles result (D.faults desk.old) (D.faults desk.new) }
 {
     let model = load_model(alloc, job, desk)?;

@@ -4,7 +4,7 @@ ghost use Rattle.std.specs.String.{string_bytes};
 ghost use Rattle.bz_io.specs.Desk.{IsSame};
 ghost use Rattle.bz_io.specs.Faults.{HasRisen};
 ghost use Rattle.bz_io.specs.Sink.{Takes};
-ghost use Rattle.bz_io.specs.Told.{WhereTold};
+ghost use Rattle.bz_io.specs.Told.{KeepsTelling, WhereTold};
 ghost use Rattle.bz_top.specs.Claims.{BreaksOff, BreaksOffAsked, BreaksOffUsage, CountsFiles, EndsSettled, EndsSettledAsked, IsCause, IsOfJob, RefusesAsked, RefusesJob, Shown, ShowsAsked, ShowsOf};
 ghost use Rattle.bz_top.specs.Ends.{status_after as after_put, IsRefused};
 ghost use Rattle.bz_top.specs.Jobs.{IsJobless};
@@ -49,7 +49,7 @@ fn outcome<D: Desk>(alloc: Global, job: &Job, desk: &mut D) -> Result<Said, Refu
     ensures shown { IfOk result (Shown (D.told desk.old) job.now) }
     ensures cause { IfErr result (IsCause (D.told desk.old) job.now) }
     ensures decomposed { EndsDecomposed (D.told desk.old) job.now result }
-    ensures kept { WhereTold IsSame (D.told desk.old) (D.told desk.new) }
+    ensures kept { KeepsTelling IsSame (D.told desk.old) (D.told desk.new) }
     ensures count { CountsFiles result (D.faults desk.old) (D.faults desk.new) }
 {
     match job {
@@ -100,7 +100,7 @@ pub fn do_alone<D: Desk, O: Sink>(alloc: Global, job: &Job, desk: &mut D, out: &
     ensures written_well { result ≢ Status.Write → (O.faults out.new).number ≡ (O.faults out.old).number }
 
     // No name is changed.
-    ensures kept { WhereTold IsSame (D.told desk.old) (D.told desk.new) }
+    ensures kept { KeepsTelling IsSame (D.told desk.old) (D.told desk.new) }
 {
     match outcome(alloc, job, desk) {
         Ok(said) => status_after(put_said(out, &said), Status::Done),
@@ -144,7 +144,7 @@ pub fn run<D: Desk, O: Sink>(alloc: Global, words: &[String], desk: &mut D, out:
     ensures written_well { result ≢ Status.Write → (O.faults out.new).number ≡ (O.faults out.old).number }
 
     // No name is changed.
-    ensures kept { WhereTold IsSame (D.told desk.old) (D.told desk.new) }
+    ensures kept { KeepsTelling IsSame (D.told desk.old) (D.told desk.new) }
 {
     match read_words(alloc, words) {
         Ok(job) => do_alone(alloc, &job, desk, out),

@@ -7,7 +7,7 @@ use Rattle.bz_top.specs.declared.status.Refusal.{Refusal}
 use Rattle.bz_top.specs.Claims.{IsCause}
 use Rattle.bz_top.specs.Loads.{RefusesCheck, Says, ShownHolding}
 use Rattle.bz_top.proofs.JudgeCounts.{judge_counts}
-use Rattle.bz_top.proofs.Loads.{cert_reached, check_refused, if_err_and, if_err_then, if_ok_then, same_after, same_then}
+use Rattle.bz_top.proofs.Loads.{cert_reached, check_refused, if_err_and, if_err_then, if_ok_then, same_after, same_then, where_told}
 use Rattle.bz_top.proofs.Showing.{shows}
 use Rattle.bz_top.proofs.Laws.{decomposes, ends_decomposed, verdicts_are_true}
 use Rattle.bz_top.proofs.check.check_files.Goals as goal
@@ -17,11 +17,11 @@ returns-in_err-certificate-clause-cause g c =
     if_err_and {T = Holding} {E = Refusal} {P = λ r. r ≡ c.in_err-certificate.field-0.0} {Q = IsCause (g.D.Desk.told c.args.desk.now) c.args.job.now}
     c.from_residual-in_err-certificate.result c.from_residual-in_err-certificate.ensures.1
     (λ refusal same. subst (λ (r : Refusal). IsCause (g.D.Desk.told c.args.desk.now) c.args.job.now r) (sym same)
-    (c.in_err-certificate.ensures.cause _ c.in_ok-split.ensures.loads (cert_reached _ _ _ c.requires c.in_ok-split.ensures.accepted)))
+    (c.in_err-certificate.ensures.cause _ (where_told 2 _ _ c.in_ok-split.ensures.loads) (cert_reached _ _ _ c.requires c.in_ok-split.ensures.accepted)))
 
 pub returns-clause-shown : goal.returns-clause-shown
 returns-clause-shown g c =
-    let read = c.in_ok-certificate.ensures.reads _ c.in_ok-split.ensures.loads in
+    let read = c.in_ok-certificate.ensures.reads _ (where_told 2 _ _ c.in_ok-split.ensures.loads) in
     if_ok_then {T = Holding} {E = Refusal}
     {P1 = λ _. Passes c.in_ok-split.split.model c.in_ok-split.split.part c.in_ok-certificate.certificate}
     {P2 = λ _. Fits c.in_ok-split.split.model c.in_ok-split.split.part c.in_ok-certificate.certificate}
@@ -34,7 +34,7 @@ returns-clause-shown g c =
 
 pub returns-clause-cause : goal.returns-clause-cause
 returns-clause-cause g c =
-    let read = c.in_ok-certificate.ensures.reads _ c.in_ok-split.ensures.loads in
+    let read = c.in_ok-certificate.ensures.reads _ (where_told 2 _ _ c.in_ok-split.ensures.loads) in
     if_err_then {T = Holding} {E = Refusal} {P = RefusesCheck c.in_ok-split.split c.in_ok-certificate.certificate} {Q = IsCause (g.D.Desk.told c.args.desk.now) c.args.job.now} c.judge.result
     (λ r refuses. check_refused _ _ _ _ r c.in_ok-split.ensures.accepted read refuses)
     c.judge.ensures.refused
