@@ -1,7 +1,7 @@
 -- What the answer of a program's columns says of the variables that they stand for.
 --
 -- In the two columns of a variable stand a number and its negative, so that two sums that aren't negative are both 0.
-use Rattle.std.specs.Prelude.{ℕ, ◌+◌, ◌*◌, ◌<◌, ◌≡◌, ℤ, pos, ◌+ℤ◌, ◌-ℤ◌, ◌*ℤ◌, neg_ℤ, ◌≤ℤ◌, true, false, List, length}
+use Rattle.std.specs.Prelude.{ℕ, ◌+◌, ◌*◌, ◌<◌, ◌≡◌, ℤ, pos, negsuc, ◌+ℤ◌, ◌-ℤ◌, ◌*ℤ◌, neg_ℤ, ◌≤ℤ◌, true, false, List, length}
 use Rattle.std.proofs.Common.{refl, ap, ◌∙◌, arith}
 use Rattle.std.proofs.lemmas.Bool.{eq-eqb, ne_eqb}
 use Rattle.std.proofs.lemmas.Int.{ints}
@@ -20,6 +20,9 @@ use Rattle.bz_std.specs.Meanings.{differences, terms_at, sum_on, sum_right, IsLe
 use Rattle.bz_std.specs.Posed.{IsPosed, IsProgramOf, Posed, over_columns}
 use Rattle.bz_std.proofs.ColumnSums.{coef_even, coef_odd, sum_of_columns}
 use Rattle.bz_std.proofs.Lines.{all_lines, has_lines, line_below}
+
+times_minus_one : (a : ℤ) → a *ℤ negsuc 0 ≡ neg_ℤ a
+times_minus_one a = omega (arith, ints)
 
 -- a number and its negative
 both_zero : (a b : ℤ) → (pos 0) ≤ℤ (a +ℤ b) → (pos 0) ≤ℤ (neg_ℤ a +ℤ neg_ℤ b) → b ≡ neg_ℤ a
@@ -118,6 +121,7 @@ module _ (q : Posed) (lp : Lp) (h : IsProgramOf q lp) (posed : IsPosed q) where
         (λ i b. omega (arith, ints, a.meets.rows_hold i (in_range i b), row_relaxed (entry z.num) i, row_there (entry z.num) i b, ap (λ (t : ℤ). t *ℤ z.den) ((has_lines q lp h).right i), s_is));
     multipliers = λ i b. a.bounds.multipliers i (in_range i b);
     balanced = vanishes (entry y.num) (λ j b. rw (← relaxed_sum j b) (a.bounds.columns j (omega arith)));
+    within = omega (arith, ints, a.bounds.columns lp.columns (omega arith), in_s (entry y.num), s_cost);
     value = rw (← s_is, ← cost_is_s (program_of lp) (entry z.num), ← right_sum (entry y.num)) a.same_cost;
   }
     where
@@ -126,6 +130,17 @@ module _ (q : Posed) (lp : Lp) (h : IsProgramOf q lp) (posed : IsPosed q) where
 
       s_is : entry z.num lp.columns ≡ s
       s_is = ap (entry z.num) h.columns
+
+      -- the column s has 1 in the objective and -1 in each row
+      s_cost : y.den *ℤ objective_entry true (program_of lp) lp.columns ≡ y.den
+      s_cost = rw (eq-eqb lp.columns lp.columns refl) (omega (arith, ints))
+
+      in_s : (w : ℕ → ℤ) → column_sum true (program_of lp) w lp.columns ≡ neg_ℤ (upto (length q.rows) w)
+      in_s w =
+          rw (eq-eqb lp.columns lp.columns refl)
+          (upto_same (length lp.rows) _ _ (λ i b. times_minus_one (w i))
+          ∙ upto_neg (length lp.rows) w
+          ∙ ap (λ (n : ℕ). neg_ℤ (upto n w)) (has_lines q lp h).count)
 
       relaxed_sum : (j : ℕ) → j < lp.columns → (y.den *ℤ objective_entry true (program_of lp) j) +ℤ column_sum true (program_of lp) (entry y.num) j ≡ rows_times (entry y.num) j
       relaxed_sum j b = rw (ne_eqb j lp.columns (λ e. omega arith), mul_zero y.den) (zero_add (rows_times (entry y.num) j))

@@ -54,7 +54,7 @@ pub record IsLeastAt (q : Posed) (v : ℕ → ℤ) (den : ℤ) (y : ℕ → ℤ)
   pub value : dot q.cost v *ℤ by ≡ neg_ℤ (sum_right q y) *ℤ den
 
 -- v / den passes no right side by more than s / den, and every point passes some right side by at least that, as the
--- multipliers y / by show
+-- multipliers y / by show, which together are at most 1
 pub record IsLeastRise (q : Posed) (v : ℕ → ℤ) (s den : ℤ) (y : ℕ → ℤ) (by : ℤ) : Type 0 where
   pub den_positive : (pos 0) <ℤ den
   pub by_positive : (pos 0) <ℤ by
@@ -62,6 +62,7 @@ pub record IsLeastRise (q : Posed) (v : ℕ → ℤ) (s den : ℤ) (y : ℕ → 
   pub meets : MeetsWithin q v den s
   pub multipliers : AreNonnegative q y
   pub balanced : (j : ℕ) → j < q.variables → sum_on q y j ≡ pos 0
+  pub within : (upto (length q.rows) y) ≤ℤ by
   pub value : s *ℤ by ≡ neg_ℤ (sum_right q y) *ℤ den
 
 -- the rows times y have no variable and a right side below 0, so that no point meets them

@@ -25,6 +25,10 @@ end_lines position lower upper =
 abbrev pub box_lines : ℕ → List ℕ → Box → List Line
 box_lines n positions box = map (side_line n) (flat_map (sides_at box) (enumerate_from 0 positions))
 
+-- those of the box with these ends
+abbrev pub ends_lines : ℕ → List ℕ → List ℤ → List ℤ → List Line
+ends_lines n positions lower upper = box_lines n positions (record { lower = lower; upper = upper })
+
 -- those of the cuts
 abbrev pub cut_lines : ℕ → List Cut → List Line
 cut_lines n cuts = map (side_line n) (map side_of_cut cuts)

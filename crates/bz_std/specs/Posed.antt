@@ -1,5 +1,5 @@
 -- Programs over variables of either sign, and the programs over columns that aren't negative which stand for them.
-use Rattle.std.specs.Prelude.{ℕ, ◌≡◌, ◌+◌, ◌*◌, ◌<◌, ℤ, List, [], ◌∷◌, map}
+use Rattle.std.specs.Prelude.{ℕ, ◌≡◌, ◌+◌, ◌*◌, ◌<◌, ℤ, List, [], ◌∷◌, ◌++◌, map}
 use Rattle.std.specs.List.{AllByRecursion}
 use Rattle.std.proofs.Math.IntN.{neg_ℤ}
 use Rattle.bz_algebra.specs.Sums.{AllBelow}
@@ -34,8 +34,25 @@ line_over_columns row = record { terms = over_columns row.terms; rhs = row.rhs }
 abbrev pub line_of : LpRow → Line
 line_of row = record { terms = row.terms; rhs = row.rhs }
 
+-- the row of a program is that of the line, over two columns for each variable
+abbrev pub IsRowOf : Line → LpRow → Type 0
+IsRowOf line row = line_of row ≡ line_over_columns line
+
+-- the rows are those of the lines
+abbrev pub AreRowsOf : List Line → List LpRow → Type 0
+AreRowsOf lines rows = map line_of rows ≡ map line_over_columns lines
+
+-- the new rows are the old ones, followed by those of the lines
+abbrev pub AreAdded : List LpRow → List LpRow → List Line → Type 0
+AreAdded old new lines = map line_of new ≡ map line_of old ++ map line_over_columns lines
+
 -- the program is the one that is posed, over two columns for each variable
 pub record IsProgramOf (q : Posed) (lp : Lp) : Type 0 where
   pub columns : lp.columns ≡ 2 * q.variables
   pub rows : map line_of lp.rows ≡ map line_over_columns q.rows
   pub cost : lp.cost ≡ over_columns q.cost
+
+-- some program is posed that this one stands for
+pub record IsOfPosed (lp : Lp) : Type 0 where
+  pub posed : Posed
+  pub program : IsProgramOf posed lp

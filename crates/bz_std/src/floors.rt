@@ -5,7 +5,7 @@ ghost use Rattle.bz_algebra.specs.Sums.{AllBelow};
 ghost use Rattle.bz_model.specs.Limits.{list_limit};
 ghost use Rattle.bz_model.specs.Parting.{blocks_of};
 ghost use Rattle.bz_tableau.specs.Programs.{IsLp};
-ghost use Rattle.bz_std.specs.Posed.{IsProgramOf, line_of, line_over_columns};
+ghost use Rattle.bz_std.specs.Posed.{AreRowsOf, IsProgramOf};
 ghost use Rattle.bz_std.specs.Tasks.{falling_line, floor};
 
 use crate::columns::{push_row, row_over_columns};
@@ -18,7 +18,7 @@ use std::alloc::Global;
 /// The rows along which no inequality rises.
 fn falling_rows(alloc: Global, ineqs: &[Ineq]) -> Result<Vec<LpRow>, OutOfMemory>
     requires { AllByRecursion (λ i. AllBelow list_limit i.own) ineqs.now }
-    ensures { IfOk result (λ rows. map line_of rows.items ≡ map line_over_columns (map falling_line ineqs.now)) }
+    ensures { IfOk result (λ rows. AreRowsOf (map falling_line ineqs.now) rows.items) }
 {
     let mut rows = Vec::new(alloc);
     for ineq in ineqs {

@@ -6,7 +6,7 @@ ghost use Rattle.bz_num.specs.Fold.{fold_of, pairs_at};
 ghost use Rattle.bz_tableau.specs.Programs.{IsLp};
 ghost use Rattle.bz_std.specs.Making.{AreNonnegativeTo, HasNarrowBound, IsLeafOfProgram, StopsLeaf, WideLeavesDoNotFit};
 ghost use Rattle.bz_std.specs.Meanings.{right_at};
-ghost use Rattle.bz_std.specs.Posed.{line_of};
+ghost use Rattle.bz_std.specs.Posed.{IsOfPosed, line_of};
 
 use crate::making::MakeStop;
 use crate::multipliers::entries_of;
@@ -39,10 +39,11 @@ fn right_sum(lambda: &SparseRow, rows: &[LpRow]) -> Result<i128, WideSum>
     sum_at(lambda, &RightSides { rows })
 }
 
-/// The leaf that the multipliers y of a node's program make over `by`: the lambda are y without zeros, and the bound is
+/// The leaf that the multipliers y of a node's program make over `by`: its lambda is y without zeros, and the bound is
 /// minus the sum of the right sides, each times its multiplier. Where that sum is wide there is none.
 pub fn made_leaf(alloc: Global, lp: &Lp, y: &[i128], by: i128) -> Result<Leaf, MakeStop>
     requires is_lp { IsLp lp.now }
+    requires posed { IsOfPosed lp.now }
     requires inside { length lp.now.rows ≤ length y.now }
     requires multipliers { AreNonnegativeTo (length lp.now.rows) (entry y.now) }
     requires nonnegative { pos 0 ≤ℤ by }

@@ -1,5 +1,5 @@
-//! The programs of a split, of a node, of a separation and of a floor; what their answers make of multipliers and points:
-//! cuts, leaves and lowest forms; and the laws that these are right.
+//! The programs of a split, of a node, of a separation and of a floor; what their answers make of multipliers and
+//! points: cuts, leaves and lowest forms; and the laws that these are right.
 //!
 //! This crate solves none of the programs, and knows no search.
 #![tactic(auto)]

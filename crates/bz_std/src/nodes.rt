@@ -7,9 +7,10 @@ ghost use Rattle.bz_num.specs.Row.{entry_at};
 ghost use Rattle.bz_model.specs.Limits.{list_limit};
 ghost use Rattle.bz_model.specs.Parting.{blocks_of, width_of};
 ghost use Rattle.bz_tableau.specs.Programs.{IsLp};
+ghost use Rattle.bz_tree.specs.Ends.{box_of};
 ghost use Rattle.bz_tree.specs.Leaves.{side_of_cut};
-ghost use Rattle.bz_std.specs.NodeLines.{box_lines, cut_lines, end_lines, master_lines};
-ghost use Rattle.bz_std.specs.Posed.{IsProgramOf, line_of, line_over_columns, over_columns};
+ghost use Rattle.bz_std.specs.NodeLines.{cut_lines, end_lines, ends_lines, master_lines};
+ghost use Rattle.bz_std.specs.Posed.{AreAdded, IsProgramOf, IsRowOf, over_columns};
 ghost use Rattle.bz_std.specs.Tasks.{IsBoxOf, IsCutOfSplit, node, node_cost, side_line};
 
 use crate::columns::{push_row, push_variable, row_over_columns};
@@ -30,7 +31,7 @@ fn push_master_rows(
 ) -> Result<(), OutOfMemory>
     requires own { AllByRecursion (λ i. AllBelow list_limit i.own) ineqs.now }
     requires sides { AllByRecursion (λ i. IsNarrow i.rhs) ineqs.now }
-    ensures { OnOk result (map line_of rows.new.items ≡ map line_of rows.old.items ++ map line_over_columns (master_lines width ineqs.now)) }
+    ensures { OnOk result (AreAdded rows.old.items rows.new.items (master_lines width ineqs.now)) }
 {
     for ineq in ineqs {
         let terms = row_over_columns(alloc, &ineq.own)?;
@@ -40,12 +41,12 @@ fn push_master_rows(
     Ok(())
 }
 
-/// The row of one variable, times a factor that isn't 0.
+/// The row of one variable, times a factor.
 fn single_row(alloc: Global, variable: u32, factor: i128, rhs: i128) -> Result<LpRow, OutOfMemory>
     requires few { variable < list_limit }
     requires factor { IsNarrow factor }
     requires side { IsNarrow rhs }
-    ensures { IfOk result (λ row. line_of row ≡ line_over_columns (record { terms = entry_at variable factor; rhs = rhs })) }
+    ensures { IfOk result (IsRowOf (record { terms = entry_at variable factor; rhs = rhs })) }
 {
     let mut terms = SparseRow::from_vec(Vec::new(alloc));
     push_variable(&mut terms, variable, factor)?;
@@ -63,7 +64,7 @@ fn push_ends(
     requires few { position < list_limit }
     requires lower { IsNarrow lower }
     requires upper { IsNarrow upper }
-    ensures { OnOk result (map line_of rows.new.items ≡ map line_of rows.old.items ++ map line_over_columns (end_lines position lower upper)) }
+    ensures { OnOk result (AreAdded rows.old.items rows.new.items (end_lines position lower upper)) }
 {
     let at_most = single_row(alloc, position, 1, upper)?;
     push_row(rows, at_most)?;
@@ -77,7 +78,7 @@ fn cut_row(alloc: Global, cut: &Cut, width: u32) -> Result<LpRow, OutOfMemory>
     requires first { 0 < cut.now.block }
     requires last { cut.now.block ≤ 256 }
     requires alpha { AllBelow width cut.now.alpha }
-    ensures { IfOk result (λ row. line_of row ≡ line_over_columns (side_line width (side_of_cut cut.now))) }
+    ensures { IfOk result (IsRowOf (side_line width (side_of_cut cut.now))) }
 {
     let mut terms = row_over_columns(alloc, &cut.alpha)?;
     push_variable(&mut terms, width + (cut.block - 1), narrow_negation(cut.p0))?;
@@ -99,7 +100,7 @@ fn push_box_rows(
     requires uppers { length upper.now ≡ length positions.now }
     requires lower { AllByRecursion IsNarrow lower.now }
     requires upper { AllByRecursion IsNarrow upper.now }
-    ensures { OnOk result (map line_of rows.new.items ≡ map line_of rows.old.items ++ map line_over_columns (box_lines width positions.now (record { lower = lower.now; upper = upper.now }))) }
+    ensures { OnOk result (AreAdded rows.old.items rows.new.items (ends_lines width positions.now lower.now upper.now)) }
 {
     for (k, position) in positions.iter().enumerate() {
         push_ends(alloc, *position, lower[k], upper[k], rows)?;
@@ -117,7 +118,7 @@ fn push_cut_rows(
     requires few { width < list_limit }
     requires blocks { AllByRecursion (λ cut. (0 < cut.block) × (cut.block ≤ 256)) cuts.now }
     requires alpha { AllByRecursion (λ cut. AllBelow width cut.alpha) cuts.now }
-    ensures { OnOk result (map line_of rows.new.items ≡ map line_of rows.old.items ++ map line_over_columns (cut_lines width cuts.now)) }
+    ensures { OnOk result (AreAdded rows.old.items rows.new.items (cut_lines width cuts.now)) }
 {
     for cut in cuts {
         let row = cut_row(alloc, cut, width)?;
@@ -149,10 +150,10 @@ pub fn node_lp(
     cuts: &[Cut],
     mode: Mode,
 ) -> Result<Lp, OutOfMemory>
-    requires region { IsBoxOf split.now.model (record { lower = region.now.lower; upper = region.now.upper }) }
+    requires region { IsBoxOf split.now.model (box_of region.now) }
     requires cuts { AllByRecursion (IsCutOfSplit split.now.part) cuts.now }
     requires few { length cuts.now + 1024 < list_limit }
-    ensures program { IfOk result (IsProgramOf (node split.now.model split.now.part (record { lower = region.now.lower; upper = region.now.upper }) cuts.now mode)) }
+    ensures program { IfOk result (IsProgramOf (node split.now.model split.now.part (box_of region.now) cuts.now mode)) }
     ensures is_lp { IfOk result IsLp }
 {
     let positions = integer_positions(alloc, split)?;

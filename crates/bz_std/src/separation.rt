@@ -8,7 +8,7 @@ ghost use Rattle.bz_num.specs.Fold.{IsNarrowSum, fold_of, goes_wide};
 ghost use Rattle.bz_model.specs.Limits.{list_limit};
 ghost use Rattle.bz_model.specs.Parting.{blocks_of, inequalities_of, width_of};
 ghost use Rattle.bz_tableau.specs.Programs.{IsLp};
-ghost use Rattle.bz_std.specs.Posed.{line_of, line_over_columns};
+ghost use Rattle.bz_std.specs.Posed.{AreAdded, AreRowsOf, IsRowOf};
 ghost use Rattle.bz_std.specs.Stops.{StopsAtRow, StopsBuilding};
 ghost use Rattle.bz_std.specs.Tasks.{IsMasterOf, IsSeparationLp, cost_line, cost_lines, own_line, right_pairs};
 
@@ -21,7 +21,7 @@ use bz_num::{Folding, Items, OutOfMemory, SparseRow, WideSum, narrow_negation};
 use bz_tableau::{Lp, LpRow, WideAt};
 use std::alloc::Global;
 
-/// Takes the product from a sum.
+/// Subtracts the product from a sum.
 fn push_less(folding: &mut Folding, number: i128, by: i128) -> Result<(), WideSum>
     requires room { folding.old.count + 1 < 2 ^ 64 }
     requires narrow { IsNarrow number }
@@ -53,7 +53,7 @@ fn right_side(point: &Master, ineq: &Ineq) -> Result<i128, WideSum>
 fn own_row(alloc: Global, point: &Master, ineq: &Ineq, number: u32) -> Result<LpRow, BuildStop>
     requires own { AllBelow list_limit ineq.now.own }
     requires master { AllBelow (length point.now.x) ineq.now.master }
-    ensures row { IfOk result (λ row. line_of row ≡ line_over_columns (own_line point.now ineq.now)) }
+    ensures row { IfOk result (IsRowOf (own_line point.now ineq.now)) }
     ensures narrow { IfOk result (λ _. IsNarrowSum (right_pairs point.now ineq.now)) }
     ensures stop { IfErr result (StopsAtRow point.now ineq.now number) }
 {
@@ -71,7 +71,7 @@ fn own_rows(alloc: Global, point: &Master, ineqs: &[Ineq]) -> Result<Vec<LpRow>,
     requires own { AllByRecursion (λ i. AllBelow list_limit i.own) ineqs.now }
     requires master { AllByRecursion (λ i. AllBelow (length point.now.x) i.master) ineqs.now }
     requires few { length ineqs.now < list_limit }
-    ensures rows { IfOk result (λ rows. map line_of rows.items ≡ map line_over_columns (map (own_line point.now) ineqs.now)) }
+    ensures rows { IfOk result (λ rows. AreRowsOf (map (own_line point.now) ineqs.now) rows.items) }
     ensures narrow { IfOk result (λ _. AllByRecursion (λ i. IsNarrowSum (right_pairs point.now i)) ineqs.now) }
     ensures stop { IfErr result (StopsBuilding point.now ineqs.now) }
 {
@@ -88,7 +88,7 @@ fn cost_row(alloc: Global, split: &Split, block: u32, point: &Master) -> Result<
     requires first { 0 < block }
     requires last { block ≤ blocks_of split.now.part }
     requires eta { length point.now.eta ≡ blocks_of split.now.part }
-    ensures { IfOk result (λ row. line_of row ≡ line_over_columns (cost_line split.now.model split.now.part point.now block)) }
+    ensures { IfOk result (IsRowOf (cost_line split.now.model split.now.part point.now block)) }
 {
     let terms = cost_over_columns(alloc, split, block)?;
     let rhs = point.eta.as_slice()[block as usize - 1];
@@ -107,7 +107,7 @@ fn push_cost_row(
     requires first { 0 < block }
     requires last { block ≤ blocks_of split.now.part }
     requires eta { length point.now.eta ≡ blocks_of split.now.part }
-    ensures { OnOk result (map line_of rows.new.items ≡ map line_of rows.old.items ++ map line_over_columns (cost_lines split.now.model split.now.part point.now block mode)) }
+    ensures { OnOk result (AreAdded rows.old.items rows.new.items (cost_lines split.now.model split.now.part point.now block mode)) }
 {
     match mode {
         Mode::Cost => {

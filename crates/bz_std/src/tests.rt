@@ -1,5 +1,5 @@
-//! The programs of examples/one.mps: an integer x from 0 to 1 in the master and a y that is at least 0 in block 1, with the
-//! row `2 x + y >= 1` and the cost `2 x + 3 y`. The inequalities of block 1 are the row's, `-2 x - y <= -1`, and the
+//! The programs of examples/one.mps: an integer x from 0 to 1 in the master and a y that is at least 0 in block 1, with
+//! the row `2 x + y >= 1` and the cost `2 x + 3 y`. The inequalities of block 1 are the row's, `-2 x - y <= -1`, and the
 //! bound's, `-y <= 0`. A variable v has two columns: it is the first less the second.
 ghost use Rattle.std.specs.Prelude.{◌≡◌, ◌+ℤ◌, ◌<ℤ◌, ◌∷◌, [], IfOk, pos};
 ghost use Rattle.bz_algebra.specs.Numbers.{IsNarrow};
@@ -171,15 +171,12 @@ fn cut(alloc: Global, alpha: i128, beta: i128) -> Result<Cut, OutOfMemory>
     })
 }
 
-/// Over the cuts `-eta <= 0` and `-6 x - eta <= -3`: the ends of x, and then the cuts, whose eta has the columns 2 and 3.
+/// Over the cuts `-eta <= 0` and `-6 x - eta <= -3`: the ends of x, and then the cuts. Their eta has the columns 2 and 3.
 #[test]
 fn a_node_has_its_box_and_its_cuts(rt: HostRuntime) -> Result<(), Fail> {
     let split = split(rt.alloc())?;
     let region = root_box(rt.alloc(), &split)?;
-    let mut cuts = Vec::with_capacity(rt.alloc(), 2)?;
-    cuts.push(cut(rt.alloc(), 0, 0)?).map_err(|_| OutOfMemory)?;
-    cuts.push(cut(rt.alloc(), -6, -3)?)
-        .map_err(|_| OutOfMemory)?;
+    let cuts = [cut(rt.alloc(), 0, 0)?, cut(rt.alloc(), -6, -3)?];
     let lp = node_lp(rt.alloc(), &split, &region, cuts.as_slice(), Mode::Cost)?;
     assert_eq!(rt; lp.columns, 4);
     assert_eq!(rt; row_of(&lp, 0), Some(([(0, 1), (1, -1)].as_slice(), 1)));
