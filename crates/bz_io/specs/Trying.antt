@@ -17,7 +17,7 @@ pub record HandsOn {S : Type 0} (may : S → Result ℕ Error → S → Type 0) 
   pub answered : may then result last
   pub other : IfErr result (λ error. error_kind error ≢ kind.Interrupted)
 
--- 2^64 - 1 tries were interrupted, and no more were made.
+-- At least 2^64 - 1 tries were interrupted.
 pub record GivesUp {S : Type 0} (may : S → Result ℕ Error → S → Type 0) (first : S) (result : Result ℕ Error) (last : S) : Type 0 where
   pub tries : ℕ
   pub all : 2 ^ 64 - 1 ≤ tries
