@@ -111,12 +111,14 @@ pub(crate) fn write_once<W: Write>(to: &mut W, bytes: &[u8]) -> io::Result<usize
     write_again(to, bytes)
 }
 
+/// Whether the system interrupted the call that gave this error.
 fn is_interrupted(error: &io::Error) -> bool
     ensures { IsTrue result ↔ (error_kind error.now ≡ ErrorKind.Interrupted) }
 {
     error.kind() == ErrorKind::Interrupted
 }
 
+/// The error of a call that was interrupted too often.
 fn gives_up() -> io::Error
     ensures { error_kind result ≡ ErrorKind.TimedOut }
 {
