@@ -1,10 +1,9 @@
 pub mod Fours
 pub mod JudgeCounts
 pub mod Laws
+pub mod LineTexts
 pub mod Loads
 pub mod PartTexts
-pub mod PieceTexts
-pub mod Puts
 pub mod RefusalEnds
 pub mod SaidEnds
 pub mod Settled

@@ -5,8 +5,9 @@ use Rattle.bz_model.proofs.Sparse.{left_at, none_left}
 use Rattle.bz_model.specs.Parting.{width_of}
 use Rattle.bz_model.specs.Splits.{Decomposition}
 use Rattle.bz_model.specs.Strict.{size_of}
-use Rattle.bz_top.specs.Texts.{line, number, part_line, parts_from}
-use Rattle.bz_top.proofs.PieceTexts.{part_pieces}
+use Rattle.bz_text.specs.Texts.{line, number}
+use Rattle.bz_top.specs.Texts.{part_line, parts_from}
+use Rattle.bz_top.proofs.LineTexts.{part_pieces}
 
 -- the pieces of a part's line are its line
 pub part_text : (d : Decomposition) (p columns rows size : ℕ) → columns ≡ width_of d.part p → size ≡ size_of d.model d.part p

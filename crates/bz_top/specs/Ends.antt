@@ -8,7 +8,8 @@ use Rattle.bz_top.specs.declared.status.Status.{Status}
 use Rattle.bz_top.specs.declared.status.Status.TheVariants as status
 use Rattle.bz_top.specs.declared.job.Job.{Job}
 use Rattle.bz_top.specs.declared.job.Job.TheVariants.{Check, Split}
-use Rattle.bz_top.specs.Texts.{line, cert_fault, check_fault, check_word, memory_text, mps_fault, part_fault, split_fault}
+use Rattle.bz_text.specs.Texts.{line}
+use Rattle.bz_top.specs.Texts.{cert_fault, check_fault, check_word, memory_text, mps_fault, part_fault, split_fault}
 
 -- the number of a status
 abbrev pub number_of : Status → ℕ

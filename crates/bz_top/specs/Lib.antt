@@ -2,7 +2,6 @@ pub mod Claims
 pub mod Ends
 pub mod Jobs
 pub mod Loads
-pub mod Pieces
 pub mod Putting
 pub mod Refusing
 pub mod Texts

@@ -1,8 +1,5 @@
 -- The texts that the program prints.
-use Rattle.std.specs.Prelude.{ℕ, ℤ, pos, ◌+◌, ◌==◌, if◌then◌else◌, List, [], ◌∷◌, ◌++◌, codes, map, slice_index_or}
-use Rattle.std.specs.Fmt.{signed_decimal}
-use Rattle.std.specs.Int.RustNames.{unsigned_abs}
-use Rattle.bz_algebra.specs.Fractions.{Fraction}
+use Rattle.std.specs.Prelude.{ℕ, ◌+◌, List, [], ◌∷◌, ◌++◌, codes, map, slice_index_or}
 use Rattle.bz_cert.specs.declared.CertFault.{CertFault}
 use Rattle.bz_cert.specs.CertKinds.{cert_name, cert_number}
 use Rattle.bz_judge.specs.declared.CheckFault.{CheckFault}
@@ -18,29 +15,10 @@ use Rattle.bz_part.specs.declared.PartFault.{PartFault}
 use Rattle.bz_part.specs.PartKinds.{part_name, part_number}
 use Rattle.bz_split.specs.declared.SplitFault.{SplitFault}
 use Rattle.bz_split.specs.declared.SplitFault.TheVariants as split
+use Rattle.bz_text.specs.Texts.{fraction_text, line, number, numbered}
 use Rattle.bz_top.specs.declared.said.Said.{Said}
 use Rattle.bz_top.specs.declared.said.Holding.{Holding}
 use Rattle.bz_top.specs.declared.said.Holding.TheVariants.{Optimal, Infeasible, Unbounded}
-
--- the bytes and a line feed
-abbrev pub line : List ℕ → List ℕ
-line bytes = bytes ++ 10 ∷ []
-
--- a number that isn't negative
-abbrev pub number : ℕ → List ℕ
-number n = signed_decimal (pos n)
-
--- a blank and a number
-abbrev pub numbered : ℕ → List ℕ
-numbered n = 32 ∷ number n
-
--- what stands behind the numerator: nothing where the denominator is 1, and else `/` (47) and the denominator
-abbrev pub over_text : ℤ → List ℕ
-over_text den = (if unsigned_abs den == 1 then [] else 47 ∷ signed_decimal den)
-
--- `num` or `num/den`
-abbrev pub fraction_text : Fraction → List ℕ
-fraction_text f = signed_decimal f.num ++ over_text f.den
 
 abbrev pub usage_text : List ℕ
 usage_text = codes "usage: solve MODEL PART CERT [--budget=N] [--workers=N] | check MODEL PART CERT | split MODEL PART | try N\n"

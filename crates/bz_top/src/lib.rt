@@ -7,7 +7,6 @@ mod edge_tests;
 mod job;
 mod loading;
 mod parting;
-mod pieces;
 mod print;
 mod put_parts;
 mod running;

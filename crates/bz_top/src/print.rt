@@ -1,49 +1,35 @@
 //! The texts that the program prints. None of them takes memory.
 ghost use Rattle.std.specs.Prelude.{◌≡◌, ◌++◌, ◌<◌, codes, length};
+ghost use Rattle.bz_text.specs.Putting.{Puts};
+ghost use Rattle.bz_text.specs.Texts.{line};
 ghost use Rattle.bz_top.specs.Ends.{refusal_text};
-ghost use Rattle.bz_top.specs.Putting.{Puts};
-ghost use Rattle.bz_top.specs.Texts.{cert_fault, check_fault, check_word, column_named, holds_text, line, memory_text, mps_fault, numbered, part_fault, row_named, split_fault, text_fault, usage_text};
+ghost use Rattle.bz_top.specs.Texts.{cert_fault, check_fault, check_word, column_named, holds_text, memory_text, mps_fault, part_fault, row_named, split_fault, text_fault, usage_text};
 
 use crate::job::Job;
 use crate::loading::file_name;
-use crate::pieces::Piece::{Count, Number, Text};
-use crate::pieces::put_pieces;
 use crate::said::Holding;
 use crate::status::Refusal;
 use bz_cert::CertFault;
-use bz_check::{CheckFault, Stated};
+use bz_check::CheckFault;
 use bz_facts::MpsFault;
 use bz_io::{PutFailed, Sink, put_all};
 use bz_model::Model;
 use bz_part::PartFault;
 use bz_split::{SplitFault, Unsplit};
-
-/// Puts the line of a certificate of an optimum that holds.
-fn put_optimal<O: Sink>(out: &mut O, stated: Stated) -> Result<(), PutFailed>
-    ensures { Puts O.taken O.faults out.old out.new (holds_text (Holding.Optimal stated)) result }
-{
-    let front = Text(b"certificate holds: optimal ");
-    if stated.den == 1 {
-        return put_pieces(out, &[front, Number(stated.num), Text(b"\n")]);
-    }
-    put_pieces(
-        out,
-        &[
-            front,
-            Number(stated.num),
-            Text(b"/"),
-            Number(stated.den),
-            Text(b"\n"),
-        ],
-    )
-}
+use bz_text::Piece::{Count, Text};
+use bz_text::{put_fraction, put_line, put_numbered, put_numbered_twice, put_pieces};
 
 /// Puts the line of a certificate that holds.
 pub(crate) fn put_holds<O: Sink>(out: &mut O, holding: Holding) -> Result<(), PutFailed>
     ensures { Puts O.taken O.faults out.old out.new (holds_text holding) result }
 {
     match holding {
-        Holding::Optimal(stated) => put_optimal(out, stated),
+        Holding::Optimal(stated) => put_fraction(
+            out,
+            b"certificate holds: optimal",
+            stated.num,
+            stated.den,
+        ),
         Holding::Infeasible => put_all(out, b"certificate holds: infeasible\n"),
         Holding::Unbounded => put_all(out, b"certificate holds: unbounded\n"),
     }
@@ -96,58 +82,6 @@ fn put_cert_fault<O: Sink>(out: &mut O, fault: CertFault) -> Result<(), PutFaile
 {
     let kind = fault.kind;
     put_text_fault(out, b"certificate", fault.line, kind.number(), kind.name())
-}
-
-/// Puts a line of two texts.
-fn put_line<'x, O: Sink>(out: &mut O, front: &'x [u8], name: &'x [u8]) -> Result<(), PutFailed>
-    ensures { Puts O.taken O.faults out.old out.new (line (front.now ++ name.now)) result }
-{
-    put_pieces(out, &[Text(front), Text(name), Text(b"\n")])
-}
-
-/// Puts a line of two texts and a number.
-fn put_numbered<'x, O: Sink>(
-    out: &mut O,
-    front: &'x [u8],
-    name: &'x [u8],
-    number: u32,
-) -> Result<(), PutFailed>
-    ensures { Puts O.taken O.faults out.old out.new (line (front.now ++ name.now ++ numbered number)) result }
-{
-    put_pieces(
-        out,
-        &[
-            Text(front),
-            Text(name),
-            Text(b" "),
-            Count(number as usize),
-            Text(b"\n"),
-        ],
-    )
-}
-
-/// Puts a line of two texts and two numbers.
-fn put_numbered_twice<'x, O: Sink>(
-    out: &mut O,
-    front: &'x [u8],
-    name: &'x [u8],
-    first: u32,
-    second: u32,
-) -> Result<(), PutFailed>
-    ensures { Puts O.taken O.faults out.old out.new (line (front.now ++ name.now ++ numbered first ++ numbered second)) result }
-{
-    put_pieces(
-        out,
-        &[
-            Text(front),
-            Text(name),
-            Text(b" "),
-            Count(first as usize),
-            Text(b" "),
-            Count(second as usize),
-            Text(b"\n"),
-        ],
-    )
 }
 
 /// Puts the line of a fault of the check.

@@ -2,13 +2,13 @@
 ghost use Rattle.std.specs.Prelude.{◌≡◌, ◌≤◌, ◌+◌, length};
 ghost use Rattle.bz_model.specs.Parting.{blocks_of};
 ghost use Rattle.bz_model.specs.Splits.{IsSplit};
-ghost use Rattle.bz_top.specs.Putting.{Puts};
+ghost use Rattle.bz_text.specs.Putting.{Puts};
 ghost use Rattle.bz_top.specs.Texts.{part_line, parts_text};
 
-use crate::pieces::Piece::{Count, Text};
-use crate::pieces::put_pieces;
 use bz_io::{PutFailed, Sink};
 use bz_model::Split;
+use bz_text::Piece::{Count, Text};
+use bz_text::put_pieces;
 
 /// Puts the line of a part.
 fn put_part<O: Sink>(out: &mut O, split: &Split, part: u32, rows: u32) -> Result<(), PutFailed>

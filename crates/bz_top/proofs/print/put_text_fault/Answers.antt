@@ -1,6 +1,6 @@
 use Rattle.std.specs.Prelude.{codes}
-use Rattle.bz_top.proofs.PieceTexts.{fault_pieces}
-use Rattle.bz_top.proofs.Puts.{puts_as}
+use Rattle.bz_text.proofs.Puts.{puts_as}
+use Rattle.bz_top.proofs.LineTexts.{fault_pieces}
 use Rattle.bz_top.proofs.print.put_text_fault.Goals as goal
 
 pub returns : goal.returns

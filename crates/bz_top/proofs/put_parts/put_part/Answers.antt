@@ -1,7 +1,7 @@
 use Rattle.std.proofs.Common.{length, ap, ◌∙◌}
 use Rattle.bz_model.proofs.Positions.{length-columns_of}
+use Rattle.bz_text.proofs.Puts.{puts_as}
 use Rattle.bz_top.proofs.PartTexts.{part_text}
-use Rattle.bz_top.proofs.Puts.{puts_as}
 use Rattle.bz_top.proofs.put_parts.put_part.Goals as goal
 
 pub returns : goal.returns

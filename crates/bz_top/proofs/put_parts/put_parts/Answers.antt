@@ -1,7 +1,7 @@
 use Rattle.std.proofs.Common.{refl, subst, List, ℕ}
+use Rattle.bz_text.proofs.PieceTexts.{Finishes, breaks, finished, goes_on, starts}
 use Rattle.bz_top.specs.Texts.{parts_text}
 use Rattle.bz_top.proofs.PartTexts.{parts_next, parts_none}
-use Rattle.bz_top.proofs.PieceTexts.{Finishes, breaks, finished, goes_on, starts}
 use Rattle.bz_top.proofs.put_parts.put_parts.Goals as goal
 
 pub loop-part-init : goal.loop-part-init

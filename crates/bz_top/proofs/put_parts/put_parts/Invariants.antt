@@ -1,7 +1,7 @@
 -- What is left to put finishes the whole.
 use Rattle.std.proofs.Common.{drop, ◌≡◌}
+use Rattle.bz_text.proofs.PieceTexts.{Finishes}
 use Rattle.bz_top.specs.Texts.{parts_from, parts_text}
-use Rattle.bz_top.proofs.PieceTexts.{Finishes}
 use Rattle.bz_top.proofs.put_parts.put_parts.Given as goal
 
 abbrev pub invariant-loop-part : goal.invariant-loop-part

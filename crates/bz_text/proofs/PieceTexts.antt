@@ -1,17 +1,22 @@
 -- Putting pieces one after another puts their whole text.
-use Rattle.std.proofs.Common.{◌≡◌, ℕ, ◌+◌, ◌<◌, ◌≤◌, List, [], ◌++◌, length, get_or, drop, Option, Some, None, ap, append_assoc, sym, ◌∷◌}
+use Rattle.std.proofs.Common.{◌≡◌, ℕ, ℤ, pos, negsuc, ◌<ℤ◌, arith, ◌+◌, ◌<◌, ◌≤◌, List, [], ◌++◌, length, get_or, drop, Option, Some, None, ap, append_assoc, sym, ◌∷◌, add-one}
+use Rattle.std.proofs.lemmas.Bool.{ne_eqb}
+use Rattle.std.proofs.lemmas.Int.{ints}
 use Rattle.std.proofs.lemmas.List.{append-nil}
+use Rattle.std.proofs.Math.ListN.{drop_of_length-le}
+use Rattle.std.proofs.Math.Seq.{drop-cons}
+use Rattle.std.specs.Fmt.{signed_decimal}
+use Rattle.std.specs.Int.RustNames.{unsigned_abs}
 use Rattle.std.specs.Prelude.{Result, Ok, Err, IsErr}
 use Rattle.bz_io.specs.declared.faults.FaultCount.{FaultCount}
 use Rattle.bz_io.specs.Faults.{HasRisen}
 use Rattle.bz_io.specs.Sink.{Takes, TakesPrefix}
 use Rattle.bz_io.specs.Told.{WhereTold}
-use Rattle.bz_model.proofs.Sparse.{left_at, none_left}
-use Rattle.bz_top.specs.declared.pieces.Piece.{Piece}
-use Rattle.bz_top.specs.Pieces.{piece_text, pieces_text}
-use Rattle.bz_top.specs.Putting.{Puts}
-use Rattle.bz_top.specs.Texts.{line}
-use Rattle.bz_top.proofs.Puts.{prefix_before, prefix_behind, takes_behind}
+use Rattle.bz_text.specs.declared.pieces.Piece.{Piece}
+use Rattle.bz_text.specs.Pieces.{piece_text, pieces_text}
+use Rattle.bz_text.specs.Putting.{Puts}
+use Rattle.bz_text.specs.Texts.{fraction_line, line}
+use Rattle.bz_text.proofs.Puts.{prefix_before, prefix_behind, takes_behind}
 
 -- once the rest is taken behind what was taken so far, the whole is taken
 pub record Finishes (rest all : List ℕ) (first then : Option (List ℕ)) : Type 0 where
@@ -40,10 +45,12 @@ ends all first then f = f.whole then (nothing_more then)
 
 -- the text of what is left of some pieces
 pub text_next : (pieces : List Piece) (i : ℕ) (d : Piece) → i < length pieces → pieces_text (drop i pieces) ≡ piece_text (get_or pieces i d) ++ pieces_text (drop (i + 1) pieces)
-text_next pieces i d l = ap pieces_text (left_at pieces i d l)
+text_next pieces i d l =
+    let left : drop i pieces ≡ get_or pieces i d ∷ drop (i + 1) pieces = rw add-one (drop-cons pieces i d l) in
+    ap pieces_text left
 
 pub text_none : (pieces : List Piece) (i : ℕ) → length pieces ≤ i → pieces_text (drop i pieces) ≡ []
-text_none pieces i l = ap pieces_text (none_left pieces i l)
+text_none pieces i l = ap pieces_text (drop_of_length-le pieces l)
 
 -- a rise behind calls that went well
 pub risen_first : (first then now : FaultCount) → then.number ≡ first.number → HasRisen then now → HasRisen first now
@@ -76,11 +83,19 @@ two_pieces a b = simp append_assoc
 pub with_number : (a b n : List ℕ) → a ++ (b ++ (32 ∷ (n ++ 10 ∷ []))) ≡ line (a ++ b ++ (32 ∷ n))
 with_number a b n = simp append_assoc
 
-pub with_numbers : (a b n m : List ℕ) → a ++ (b ++ (32 ∷ (n ++ (32 ∷ (m ++ 10 ∷ []))))) ≡ line (a ++ b ++ (32 ∷ n) ++ (32 ∷ m))
-with_numbers a b n m = simp append_assoc
+pub two_numbers : (a b n m : List ℕ) → a ++ (b ++ (32 ∷ (n ++ (32 ∷ (m ++ 10 ∷ []))))) ≡ line (a ++ b ++ (32 ∷ n) ++ (32 ∷ m))
+two_numbers a b n m = simp append_assoc
 
-pub fault_pieces : (file said place between kind name : List ℕ) → file ++ (said ++ (place ++ (between ++ (kind ++ (32 ∷ (name ++ 10 ∷ [])))))) ≡ line (file ++ said ++ place ++ between ++ kind ++ 32 ∷ name)
-fault_pieces file said place between kind name = simp append_assoc
+-- a number above 0 is 1 where its size is 1
+pub is_one : (z : ℤ) → pos 0 <ℤ z → unsigned_abs z ≡ 1 → z ≡ pos 1
+is_one (pos n) above size = ap pos size
+is_one (negsuc n) above size = absurd (omega (arith, ints, above))
 
-pub part_pieces : (a p b c d r e i : List ℕ) → a ++ (p ++ (b ++ (c ++ (d ++ (r ++ (e ++ (i ++ 10 ∷ []))))))) ≡ line (a ++ p ++ b ++ c ++ d ++ r ++ e ++ i)
-part_pieces a p b c d r e i = simp append_assoc
+-- the pieces of a fraction's line: with the denominator 1, and with another
+pub with_whole : (a : List ℕ) (num den n : ℤ) → n ≡ num → unsigned_abs den ≡ 1 →
+    a ++ (32 ∷ (signed_decimal n ++ 10 ∷ [])) ≡ fraction_line a num den
+with_whole a num den n same one = rw (same, one) (simp (append_assoc, append-nil))
+
+pub with_fraction : (a : List ℕ) (num den n d : ℤ) → n ≡ num → d ≡ den → (unsigned_abs den ≡ 1 → ⊥) →
+    a ++ (32 ∷ (signed_decimal n ++ (47 ∷ (signed_decimal d ++ 10 ∷ [])))) ≡ fraction_line a num den
+with_fraction a num den n d same too other = rw (same, too, ne_eqb (unsigned_abs den) 1 other) (simp append_assoc)

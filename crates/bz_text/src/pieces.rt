@@ -1,13 +1,13 @@
 //! Texts that are put piece by piece. None of it takes memory.
-ghost use Rattle.bz_top.specs.Pieces.{piece_text, pieces_text};
-ghost use Rattle.bz_top.specs.Putting.{Puts};
+ghost use Rattle.bz_text.specs.Pieces.{piece_text, pieces_text};
+ghost use Rattle.bz_text.specs.Putting.{Puts};
 
 use bz_io::{PutFailed, Sink, put_all};
 use itoa::Buffer;
 
 /// A piece of a text.
 #[derive(Clone, Copy)]
-pub(crate) enum Piece<'a> {
+pub enum Piece<'a> {
     /// These bytes.
     Text(&'a [u8]),
     /// A whole number in decimal.
@@ -34,7 +34,7 @@ fn put_piece<O: Sink>(out: &mut O, piece: Piece) -> Result<(), PutFailed>
 }
 
 /// Puts the pieces, one after another.
-pub(crate) fn put_pieces<O: Sink>(out: &mut O, pieces: &[Piece]) -> Result<(), PutFailed>
+pub fn put_pieces<O: Sink>(out: &mut O, pieces: &[Piece]) -> Result<(), PutFailed>
     ensures { Puts O.taken O.faults out.old out.new (pieces_text pieces.now) result }
 {
     for piece in pieces {

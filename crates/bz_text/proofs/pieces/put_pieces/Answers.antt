@@ -1,7 +1,7 @@
 use Rattle.std.proofs.Common.{refl, subst, List, ℕ}
-use Rattle.bz_top.specs.Pieces.{pieces_text}
-use Rattle.bz_top.proofs.PieceTexts.{Finishes, breaks, finished, goes_on, starts, text_next, text_none}
-use Rattle.bz_top.proofs.pieces.put_pieces.Goals as goal
+use Rattle.bz_text.specs.Pieces.{pieces_text}
+use Rattle.bz_text.proofs.PieceTexts.{Finishes, breaks, finished, goes_on, starts, text_next, text_none}
+use Rattle.bz_text.proofs.pieces.put_pieces.Goals as goal
 
 pub loop-piece-init : goal.loop-piece-init
 loop-piece-init g c = (starts _ _, refl)

@@ -1,7 +1,7 @@
 -- Texts by pieces.
 use Rattle.std.specs.Prelude.{ℕ, pos, List, [], ◌∷◌, ◌++◌}
 use Rattle.std.specs.Fmt.{signed_decimal}
-use Rattle.bz_top.specs.declared.pieces.Piece.{Piece}
+use Rattle.bz_text.specs.declared.pieces.Piece.{Piece}
 
 -- the text of a piece
 abbrev pub piece_text : Piece → List ℕ

@@ -1,8 +1,8 @@
 -- What is left to put finishes the whole.
 use Rattle.std.proofs.Common.{drop, ◌≡◌}
-use Rattle.bz_top.specs.Pieces.{pieces_text}
-use Rattle.bz_top.proofs.PieceTexts.{Finishes}
-use Rattle.bz_top.proofs.pieces.put_pieces.Given as goal
+use Rattle.bz_text.specs.Pieces.{pieces_text}
+use Rattle.bz_text.proofs.PieceTexts.{Finishes}
+use Rattle.bz_text.proofs.pieces.put_pieces.Given as goal
 
 abbrev pub invariant-loop-piece : goal.invariant-loop-piece
 invariant-loop-piece g l =
