@@ -1,6 +1,7 @@
 -- Cuts and leaves in the making: their numbers before the division, and why one is not made.
 use Rattle.std.specs.Prelude.{ℕ, ◌+◌, ◌<◌, ◌≡◌, ℤ, pos, ◌*ℤ◌, ◌≤ℤ◌, ◌<ℤ◌, List, [], length}
 use Rattle.std.proofs.Common.{arith}
+use Rattle.std.proofs.Math.IntN.{neg_ℤ}
 use Rattle.bz_algebra.specs.Numbers.{IsNarrow}
 use Rattle.bz_algebra.specs.Sums.{AllBelow, coef, dot}
 use Rattle.bz_num.specs.Dense.{AreNarrow, entry}
@@ -22,7 +23,7 @@ use Rattle.bz_std.specs.declared.making.MakeStop.TheVariants as stop
 use Rattle.bz_std.specs.CutsFrom.{AreEntries, IsLowestCut}
 use Rattle.bz_std.specs.LeavesFrom.{IsLeafFrom}
 use Rattle.bz_std.specs.Meanings.{right_at}
-use Rattle.bz_std.specs.Posed.{IsProgramOf, Posed}
+use Rattle.bz_std.specs.Posed.{IsProgramOf, Line, Posed}
 use Rattle.bz_std.specs.Tasks.{node}
 
 -- the first n numbers of y aren't negative
@@ -109,6 +110,25 @@ pub record WideCutsDoNotFit : Type 0 where
       ¬ HasNarrowCutSums m part b mu → ¬ FitsCut m part (bare b mu raw h)
 
 -- ---- leaves
+-- the leaf has the multipliers y without zeros, `by` for its delta, and for its bound their sum of the right sides with the
+-- other sign, in which nothing is wide
+pub record IsLeafOfLines (lines : List Line) (y : ℕ → ℤ) (by : ℤ) (leaf : Leaf) : Type 0 where
+  pub lambda : AreEntries (length lines) y leaf.lambda
+  pub delta : leaf.delta ≡ by
+  pub bound : leaf.bound ≡ neg_ℤ (dot leaf.lambda (right_at lines))
+  pub narrow : IsNarrowSum (pairs_at leaf.lambda (right_at lines))
+
+-- the sum of the right sides, each times its multiplier, is wide
+pub record HasWideLines (lines : List Line) (y : ℕ → ℤ) : Type 0 where
+  pub lambda : List (ℕ × ℤ)
+  pub entries : AreEntries (length lines) y lambda
+  pub wide : ¬ IsNarrowSum (pairs_at lambda (right_at lines))
+
+-- no leaf is made for want of memory, or because that sum is wide
+abbrev pub StopsLines : List Line → (ℕ → ℤ) → MakeStop → Type 0
+StopsLines lines y stop.OutOfMemory = Unit {0}
+StopsLines lines y stop.Wide = HasWideLines lines y
+
 -- the leaf is the one that y and `by` make of the program that is posed, whichever this is
 abbrev pub IsLeafOfProgram : Lp → (ℕ → ℤ) → ℤ → Leaf → Type 0
 IsLeafOfProgram lp y by leaf = (q : Posed) → IsProgramOf q lp → IsLeafFrom q y by leaf

@@ -51,8 +51,3 @@ pub record IsProgramOf (q : Posed) (lp : Lp) : Type 0 where
   pub columns : lp.columns ≡ 2 * q.variables
   pub rows : map line_of lp.rows ≡ map line_over_columns q.rows
   pub cost : lp.cost ≡ over_columns q.cost
-
--- some program is posed that this one stands for
-pub record IsOfPosed (lp : Lp) : Type 0 where
-  pub posed : Posed
-  pub program : IsProgramOf posed lp

@@ -4,9 +4,9 @@ ghost use Rattle.bz_algebra.specs.Sums.{AllBelow};
 ghost use Rattle.bz_num.specs.Dense.{entry};
 ghost use Rattle.bz_num.specs.Fold.{fold_of, pairs_at};
 ghost use Rattle.bz_tableau.specs.Programs.{IsLp};
-ghost use Rattle.bz_std.specs.Making.{AreNonnegativeTo, HasNarrowBound, IsLeafOfProgram, StopsLeaf, WideLeavesDoNotFit};
+ghost use Rattle.bz_std.specs.Making.{AreNonnegativeTo, HasNarrowBound, IsLeafOfLines, IsLeafOfProgram, StopsLeaf, StopsLines, WideLeavesDoNotFit};
 ghost use Rattle.bz_std.specs.Meanings.{right_at};
-ghost use Rattle.bz_std.specs.Posed.{IsOfPosed, line_of};
+ghost use Rattle.bz_std.specs.Posed.{line_of};
 
 use crate::making::MakeStop;
 use crate::multipliers::entries_of;
@@ -43,10 +43,11 @@ fn right_sum(lambda: &SparseRow, rows: &[LpRow]) -> Result<i128, WideSum>
 /// minus the sum of the right sides, each times its multiplier. Where that sum is wide there is none.
 pub fn made_leaf(alloc: Global, lp: &Lp, y: &[i128], by: i128) -> Result<Leaf, MakeStop>
     requires is_lp { IsLp lp.now }
-    requires posed { IsOfPosed lp.now }
     requires inside { length lp.now.rows ≤ length y.now }
     requires multipliers { AreNonnegativeTo (length lp.now.rows) (entry y.now) }
     requires nonnegative { pos 0 ≤ℤ by }
+    ensures made { IfOk result (IsLeafOfLines (map line_of lp.now.rows) (entry y.now) by) }
+    ensures wide { IfErr result (StopsLines (map line_of lp.now.rows) (entry y.now)) }
     ensures leaf { IfOk result (IsLeafOfProgram lp.now (entry y.now) by) }
     ensures narrow { IfOk result (λ leaf. HasNarrowBound lp.now leaf.lambda) }
     ensures stop { IfErr result (StopsLeaf lp.now (entry y.now)) }
