@@ -5,14 +5,13 @@ ghost use Rattle.std.specs.Prelude.{◌≡◌, ◌+ℤ◌, ◌<ℤ◌, ◌∷◌
 ghost use Rattle.bz_algebra.specs.Numbers.{IsNarrow};
 ghost use Rattle.bz_model.specs.Worked.{AreWorkedColumns};
 ghost use Rattle.bz_cut.specs.Worked.{AreLinked};
-ghost use Rattle.bz_std.specs.Tasks.{IsCutOfSplit, IsMasterOf};
+ghost use Rattle.bz_std.specs.Tasks.{IsMasterOf};
 
-use crate::{BuildStop, floor_lp, node_lp, separation_lp};
-use bz_cut::{Cut, Mode};
+use crate::{BuildStop, floor_lp, separation_lp};
+use bz_cut::Mode;
 use bz_model::{Column, Master, Model, Row, Split};
 use bz_num::{Frac, Items, Name, OutOfMemory, SparseRow};
 use bz_tableau::{Lp, WideAt};
-use bz_tree::root_box;
 use std::alloc::Global;
 use std::test::Fail;
 
@@ -150,46 +149,5 @@ fn a_wide_right_side_is_named(rt: HostRuntime) -> Result<(), Fail> {
     let point = point(rt.alloc(), MOST)?;
     let stopped = separation_lp(rt.alloc(), &split, 1, &point, Mode::Cost);
     assert!(rt; is_wide_at(&stopped, 0));
-    Ok(())
-}
-
-/// The cut `alpha x - eta <= beta` of block 1; it is not asked whether it is valid.
-fn cut(alloc: Global, alpha: i128, beta: i128) -> Result<Cut, OutOfMemory>
-    requires alpha { IsNarrow alpha }
-    requires beta { IsNarrow beta }
-    ensures { IfOk result (λ cut. IsCutOfSplit (0 ∷ 1 ∷ []) cut) }
-{
-    let mut numbers = SparseRow::from_vec(Vec::new(alloc));
-    numbers.push(0, alpha)?;
-    Ok(Cut {
-        block: 1,
-        mu: SparseRow::from_vec(Vec::new(alloc)),
-        gcd: 1,
-        alpha: numbers,
-        p0: 1,
-        beta,
-    })
-}
-
-/// Over the cuts `-eta <= 0` and `-6 x - eta <= -3`: the ends of x, and then the cuts. Their eta has the columns 2 and 3.
-#[test]
-fn a_node_has_its_box_and_its_cuts(rt: HostRuntime) -> Result<(), Fail> {
-    let split = split(rt.alloc())?;
-    let region = root_box(rt.alloc(), &split)?;
-    let cuts = [cut(rt.alloc(), 0, 0)?, cut(rt.alloc(), -6, -3)?];
-    let lp = node_lp(rt.alloc(), &split, &region, cuts.as_slice(), Mode::Cost)?;
-    assert_eq!(rt; lp.columns, 4);
-    assert_eq!(rt; row_of(&lp, 0), Some(([(0, 1), (1, -1)].as_slice(), 1)));
-    assert_eq!(rt; row_of(&lp, 1), Some(([(0, -1), (1, 1)].as_slice(), 0)));
-    assert_eq!(rt; row_of(&lp, 2), Some(([(2, -1), (3, 1)].as_slice(), 0)));
-    assert_eq!(rt;
-        row_of(&lp, 3),
-        Some(([(0, -6), (1, 6), (2, -1), (3, 1)].as_slice(), -3))
-    );
-    assert_eq!(rt; row_of(&lp, 4), None);
-    assert_eq!(rt;
-        lp.cost.as_slice(),
-        [(0, 2), (1, -2), (2, 1), (3, -1)].as_slice()
-    );
     Ok(())
 }
