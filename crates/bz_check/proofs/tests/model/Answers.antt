@@ -1,16 +1,14 @@
 use Rattle.std.proofs.Common.{◌≡◌, length, arith}
-use Rattle.std.proofs.lemmas.Int.{ints}
 use Rattle.bz_model.proofs.WorkedModel.{two_columns}
 use Rattle.bz_cut.proofs.WorkedSplits.{one_row}
 use Rattle.bz_check.proofs.tests.model.Goals as goal
 
-pub invariant_of-result : goal.invariant_of-result
-invariant_of-result c =
+pub invariant_of-result-clause-few_columns : goal.invariant_of-result-clause-few_columns
+invariant_of-result-clause-few_columns c =
     let columns : length c.in_ok-columns.field-0 ≡ 2 = two_columns c.in_ok-columns.field-0 c.in_ok-columns.ensures in
-    let rows : length c.in_ok-rows.field-0 ≡ 1 = one_row c.args.a c.in_ok-rows.field-0 c.in_ok-rows.ensures in
-    record {
-      constant_narrow = omega arith;
-      scale_positive = omega (arith, ints);
-      few_columns = omega (arith, columns);
-      few_rows = omega (arith, rows);
-    }
+    omega (arith, columns)
+
+pub invariant_of-result-clause-few_rows : goal.invariant_of-result-clause-few_rows
+invariant_of-result-clause-few_rows c =
+    let rows : length c.in_ok-rows.field-0 ≡ 1 = one_row _ c.in_ok-rows.field-0 c.in_ok-rows.ensures in
+    omega (arith, rows)

@@ -7,7 +7,7 @@ use Rattle.bz_cut.proofs.tests.model.Goals as goal
 pub invariant_of-result : goal.invariant_of-result
 invariant_of-result c =
     let columns : length c.in_ok-columns.field-0 ≡ 2 = two_columns c.in_ok-columns.field-0 c.in_ok-columns.ensures in
-    let rows : length c.in_ok-rows.field-0 ≡ 1 = one_row c.args.a c.in_ok-rows.field-0 c.in_ok-rows.ensures in
+    let rows : length c.in_ok-rows.field-0 ≡ 1 = one_row _ c.in_ok-rows.field-0 c.in_ok-rows.ensures in
     record {
       constant_narrow = omega arith;
       scale_positive = omega (arith, ints);
