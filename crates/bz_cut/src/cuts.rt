@@ -7,7 +7,7 @@ ghost use Rattle.bz_first.specs.Tests.{Judges};
 
 use crate::faults::CutFault;
 use crate::judging::{judge_equation, judge_opposite, judge_product};
-use crate::lists::{all_below, are_multipliers};
+use crate::lists::are_multipliers;
 use crate::records::Cut;
 use crate::sums::{Terms, column_sum, rhs_sum};
 use bz_first::{PlaceTests, judge_below};
@@ -27,7 +27,7 @@ fn judge_form(split: &Split, cut: &Cut) -> Result<(), CutFault>
     if !has_block(split, cut) {
         return Err(CutFault::Invalid);
     }
-    if !all_below(&cut.alpha, split.width(0)) {
+    if !split.has_positions(0, &cut.alpha) {
         return Err(CutFault::Invalid);
     }
     if !are_multipliers(&cut.mu, split.inequalities(cut.block).len()) {

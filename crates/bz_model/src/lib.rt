@@ -17,6 +17,7 @@ mod sides;
 mod sizes;
 mod splitting;
 mod stated;
+mod widths;
 
 pub use costs::inner_number;
 pub use homes::home;
