@@ -14,11 +14,14 @@ pub mod ListFacts
 pub mod Listed
 pub mod LowestForms
 pub mod LowestMade
+pub mod MeetingSides
 pub mod Moved
 pub mod NodeFloors
 pub mod NodeRows
+pub mod NodesTold
 pub mod NumberListsMade
 pub mod OneLowest
+pub mod OnePosed
 pub mod OneRowLists
 pub mod OverColumns
 pub mod PosedLps
