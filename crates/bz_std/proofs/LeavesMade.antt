@@ -31,7 +31,7 @@ use Rattle.bz_std.proofs.RowSums.{made_sum, master_below}
 
 -- ---- the cost of a node
 module _ (m : Model) (part : List ℕ) (d : IsDecomposed m part) where
-  cost_on_master : (i : ℕ) → i < width_of part 0 → coef (node_cost m part mode.Cost) i ≡ coef (terms_in part 0 (inner_cost m)) i
+  pub cost_on_master : (i : ℕ) → i < width_of part 0 → coef (node_cost m part mode.Cost) i ≡ coef (terms_in part 0 (inner_cost m)) i
   cost_on_master i l = coef_append (terms_in part 0 (inner_cost m)) (ones (width_of part 0) (blocks_of part)) i ∙ rw (coef_ones_before (width_of part 0) (blocks_of part) i l) (add_zero (coef (terms_in part 0 (inner_cost m)) i))
 
   -- at the eta of a block

@@ -1,6 +1,8 @@
+pub mod BoxCompared
 pub mod Building
 pub mod ColumnSums
 pub mod Combined
+pub mod CostsCompared
 pub mod Crossing
 pub mod CutNumbers
 pub mod CutsMade
@@ -12,6 +14,7 @@ pub mod LeavesMade
 pub mod Lines
 pub mod ListFacts
 pub mod Listed
+pub mod ListsCompared
 pub mod LowestForms
 pub mod LowestMade
 pub mod MeetingSides
@@ -28,5 +31,7 @@ pub mod PosedLps
 pub mod PosedTasks
 pub mod RightSides
 pub mod RowSums
+pub mod RowsCompared
 pub mod SparseLists
+pub mod Tested
 pub mod Widths

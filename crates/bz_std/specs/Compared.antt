@@ -7,14 +7,15 @@ use Rattle.bz_num.specs.Fold.{IsNarrowSum}
 use Rattle.bz_model.specs.declared.Ineq.{Ineq}
 use Rattle.bz_model.specs.declared.Master.{Master}
 use Rattle.bz_model.specs.declared.Model.{Model}
-use Rattle.bz_model.specs.Parting.{inequalities_of, width_of}
+use Rattle.bz_model.specs.Parting.{blocks_of, inequalities_of, inner_cost, terms_in, width_of}
 use Rattle.bz_cut.specs.declared.Cut.{Cut}
 use Rattle.bz_cut.specs.declared.Mode.{Mode}
+use Rattle.bz_cut.specs.declared.Mode.TheVariants as mode
 use Rattle.bz_tree.specs.Boxes.{Box}
 use Rattle.bz_tree.specs.Leaves.{sides_of}
 use Rattle.bz_tableau.specs.declared.programs.LpRow.{LpRow}
 use Rattle.bz_std.specs.Posed.{AreRowsOf, IsRowOf, Line, over_columns}
-use Rattle.bz_std.specs.Tasks.{own_line, right_pairs, separation, side_line}
+use Rattle.bz_std.specs.Tasks.{node_cost, own_line, right_pairs, separation, side_line}
 
 -- ---- a row
 -- from place `at` on the row has the two columns of the variable with this number, before what comes after them
@@ -31,13 +32,25 @@ pub record HasNumber (row : List (ℕ × ℤ)) (variable : ℕ) (number : ℤ) :
   pub first : coef row (2 * variable) ≡ number
   pub second : coef row (2 * variable + 1) ≡ neg_ℤ number
 
--- `count` variables from one on have the numbers of f in the row
-abbrev pub HasNumbers : List (ℕ × ℤ) → (first count : ℕ) → (ℕ → ℤ) → Type 0
-HasNumbers row first count f = (j : ℕ) → j < count → HasNumber row (first + j) (f j)
+-- the first variables have the numbers of f in the row
+abbrev pub HasNumbers : List (ℕ × ℤ) → ℕ → (ℕ → ℤ) → Type 0
+HasNumbers row count f = (j : ℕ) → j < count → HasNumber row j (f j)
+
+-- `count` variables from `first` on have the number 1 in the row
+abbrev pub HasOnes : List (ℕ × ℤ) → (first count : ℕ) → Type 0
+HasOnes row first count = (k : ℕ) → k < count → HasNumber row (first + k) (pos 1)
+
+-- each position of a part has in the row its number in the cost that is minimised
+abbrev pub HasCosts : Model → List ℕ → ℕ → List (ℕ × ℤ) → Type 0
+HasCosts m part b row = HasNumbers row (width_of part b) (coef (terms_in part b (inner_cost m)))
+
+-- each variable of a node has in the row its number in mode Cost
+abbrev pub HasNodeCosts : Model → List ℕ → List (ℕ × ℤ) → Type 0
+HasNodeCosts m part row = HasNumbers row (width_of part 0 + blocks_of part) (coef (node_cost m part mode.Cost))
 
 -- the row is that of the inequality at the point, and the sum of its right side is not wide
 pub record IsOwnRow (point : Master) (ineq : Ineq) (row : LpRow) : Type 0 where
-  pub row : IsRowOf (own_line point ineq) row
+  pub line : IsRowOf (own_line point ineq) row
   pub narrow : IsNarrowSum (right_pairs point ineq)
 
 -- the rows are those of the upper and the lower end of the integer column at a position
@@ -60,7 +73,7 @@ AreRowsOfEach lines rows = Pairwise IsRowOf lines rows
 -- the rows are those of a separation, whose right sides are added up without a wide number
 pub record AreSeparationRows (m : Model) (part : List ℕ) (point : Master) (b : ℕ) (way : Mode) (rows : List LpRow)
     : Type 0 where
-  pub rows : AreRowsOf (separation m part point b way).rows rows
+  pub lines : AreRowsOf (separation m part point b way).rows rows
   pub narrow : AllByRecursion (λ i. IsNarrowSum (right_pairs point i)) (inequalities_of m part b)
 
 -- the rows are those of a node

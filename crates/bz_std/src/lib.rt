@@ -5,6 +5,8 @@
 #![tactic(auto)]
 
 mod columns;
+mod comparison;
+mod cost_comparison;
 mod costs;
 mod cuts;
 mod floors;
@@ -14,10 +16,12 @@ mod making;
 mod multipliers;
 mod nodes;
 mod reduction;
+mod row_comparison;
 mod separation;
 mod stops;
 mod variables;
 
+pub use comparison::{is_floor_lp, is_node_lp, is_separation_lp};
 pub use cuts::{made_cut, wide_cuts_do_not_fit};
 pub use floors::floor_lp;
 pub use laws::{
