@@ -17,7 +17,7 @@ use Rattle.bz_cut.specs.declared.Mode.TheVariants as mode
 use Rattle.bz_tree.specs.Boxes.{Box}
 use Rattle.bz_tree.specs.Leaves.{sides_of}
 use Rattle.bz_tableau.specs.declared.programs.Lp.{Lp}
-use Rattle.bz_std.specs.Posed.{IsProgramOf, Line, Posed}
+use Rattle.bz_std.specs.Posed.{IsProgramOf, Line, Posed, over_columns}
 
 -- ---- separation: is there a completion of the master's point x / den in the block, at a cost of at most its eta?
 
@@ -93,6 +93,16 @@ node m part box cuts mode = record {
   rows = map (side_line (width_of part 0)) (sides_of m part box cuts);
   cost = node_cost m part mode;
 }
+
+-- ---- costs over columns
+
+-- the row is the cost of a part over columns
+abbrev pub IsPartCost : Model → List ℕ → ℕ → List (ℕ × ℤ) → Type 0
+IsPartCost m part b row = row ≡ over_columns (terms_in part b (inner_cost m))
+
+-- the row is the cost of a node over columns
+abbrev pub IsNodeCost : Model → List ℕ → Mode → List (ℕ × ℤ) → Type 0
+IsNodeCost m part mode row = row ≡ over_columns (node_cost m part mode)
 
 -- ---- what a task's lists fit
 

@@ -35,7 +35,7 @@ fn push_less(folding: &mut Folding, number: i128, by: i128) -> Result<(), WideSu
 
 /// What is left of the right side of an inequality at the point, times the point's denominator, or the first wide
 /// place of that sum.
-fn right_side(point: &Master, ineq: &Ineq) -> Result<i128, WideSum>
+pub(crate) fn right_side(point: &Master, ineq: &Ineq) -> Result<i128, WideSum>
     requires { AllBelow (length point.now.x) ineq.now.master }
     ensures value { result ≡ fold_of (right_pairs point.now ineq.now) }
     ensures narrow { IfOk result IsNarrow }
