@@ -1,5 +1,6 @@
 pub mod CutsFrom
 pub mod CutsOfBases
+pub mod Fitting
 pub mod Floored
 pub mod Laws
 pub mod LeavesFrom

@@ -1,0 +1,5 @@
+pub mod Failing
+pub mod Floors
+pub mod Nodes
+pub mod Separations
+pub mod Stops
