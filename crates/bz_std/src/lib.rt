@@ -7,6 +7,7 @@
 mod columns;
 mod costs;
 mod cuts;
+mod fitting;
 mod floors;
 mod laws;
 mod leaves;
@@ -19,6 +20,7 @@ mod stops;
 mod variables;
 
 pub use cuts::{made_cut, wide_cuts_do_not_fit};
+pub use fitting::fitting_cut;
 pub use floors::floor_lp;
 pub use laws::{
     answers_cross, cuts_are_of_bases, floors_have_one_end, lowest_forms_meet, made_cuts_are_valid,
