@@ -16,6 +16,8 @@ use Rattle.bz_tableau.specs.declared.answers.Vals.{Vals}
 use Rattle.bz_tableau.specs.declared.programs.Lp.{Lp}
 use Rattle.bz_std.specs.declared.making.MakeStop.{MakeStop}
 use Rattle.bz_std.specs.declared.making.MakeStop.TheVariants as make
+use Rattle.bz_std.specs.CutsFrom.{BalancesCost, IsNoCut, cost_multiplier}
+use Rattle.bz_std.specs.Fitting.{IsFittingCut, StopsFitting}
 use Rattle.bz_std.specs.Meanings.{IsLeastRise, differences}
 use Rattle.bz_std.specs.Posed.{IsPosed, Posed}
 use Rattle.bz_std.specs.Tasks.{IsSeparationLp, cost_lines, own_line, separation}
@@ -26,13 +28,16 @@ use Rattle.bz_std.proofs.CutsOfBases.{cut_of_answer}
 use Rattle.bz_std.proofs.Lines.{has_lines}
 use Rattle.bz_std.proofs.PosedTasks.{separation_posed}
 use Rattle.bz_event.specs.Separations.{IsCutAnswer}
-use Rattle.bz_sep.specs.Outcomes.{Answers, cut_answered}
-use Rattle.bz_sep.specs.SeparationCuts.{Balances, Makes, MakesNone, StopsMaking, cost_rows}
+use Rattle.bz_sep.specs.Outcomes.{Answers, cost_rows, cut_answered}
 
 module _ (m : Model) (part : List ℕ) (d : IsDecomposed m part) (b : ℕ) (point : Master) (way : Mode) (lp : Lp) (s : IsSeparationLp m part point b way lp)
     (basis : List ℕ) (z y : Vals) (l : IsLeast true (program_of lp) basis z y) where
   abbrev q : Posed
   q = separation m part point b way
+
+  -- what the multipliers give the block's eta
+  abbrev pub raw : ℤ
+  raw = cost_multiplier way (length (inequalities_of m part b)) (entry y.num)
 
   posed : IsPosed q
   posed = separation_posed m part d b point way
@@ -41,7 +46,7 @@ module _ (m : Model) (part : List ℕ) (d : IsDecomposed m part) (b : ℕ) (poin
   pub rise : IsLeastRise q (differences (entry z.num)) (entry z.num (2 * width_of part b)) z.den (entry y.num) y.den
   rise = rise_crosses q lp s.program posed basis z y l
 
-  pub balances : Balances m part b way (entry y.num)
+  pub balances : BalancesCost m part b (entry y.num) raw
   balances = separation_balances m part point b way _ _ _ _ _ rise
 
   count_of : (kind : Mode) → length (cost_lines m part point b kind) ≡ cost_rows kind
@@ -55,10 +60,10 @@ module _ (m : Model) (part : List ℕ) (d : IsDecomposed m part) (b : ℕ) (poin
       length-map (inequalities_of m part b) (own_line point), count_of way)
 
   module _ (r : (pos 0) <ℤ (entry z.num (2 * width_of part b))) where
-    pub makes_some : MakesNone m part b way (entry y.num) → ⊥
+    pub makes_some : IsNoCut m part b (entry y.num) raw → ⊥
     makes_some = makes_cut m part d point b (entry y.num) way _ _ _ _ rise r
 
-    pub is_cut_answer : (cut : Cut) → Makes m part b way (entry y.num) cut → IsCutAnswer m part b point way lp basis cut
+    pub is_cut_answer : (cut : Cut) → IsFittingCut m part b (entry y.num) raw cut → IsCutAnswer m part b point way lp basis cut
     is_cut_answer cut c = record {
       z = z;
       y = y;
@@ -71,7 +76,7 @@ module _ (m : Model) (part : List ℕ) (d : IsDecomposed m part) (b : ℕ) (poin
       impossible = rise_excludes q _ _ _ _ _ posed rise r;
     }
 
-    pub cut_answers : (made : Result Cut MakeStop) → IfOk made (Makes m part b way (entry y.num)) → IfErr made (StopsMaking m part b way (entry y.num)) → Answers m part b point way lp (cut_answered basis made)
+    pub cut_answers : (made : Result Cut MakeStop) → IfOk made (IsFittingCut m part b (entry y.num) raw) → IfErr made (StopsFitting m part b (entry y.num) raw) → Answers m part b point way lp (cut_answered basis made)
     cut_answers (Ok cut) h k = (s, is_cut_answer cut h)
     cut_answers (Err make.Wide) h k = (s, refl, refl, record {
       z = z;

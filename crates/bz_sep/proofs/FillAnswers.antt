@@ -1,10 +1,11 @@
 -- What a point of a separation's program makes of a completion.
-use Rattle.std.specs.Prelude.{ℕ, ◌+◌, ◌*◌, ◌<◌, ◌≤◌, ◌≡◌, ℤ, pos, ◌≤ℤ◌, ◌<ℤ◌, List, [], ◌∷◌, ◌++◌, length, Result, Ok, Err, IfErr, true}
+use Rattle.std.specs.Prelude.{ℕ, suc, ◌+◌, ◌*◌, ◌<◌, ◌≤◌, ◌≡◌, ℤ, pos, ◌≤ℤ◌, ◌<ℤ◌, List, [], ◌∷◌, ◌++◌, length, Result, Ok, Err, IfErr, true}
 use Rattle.std.specs.List.{AllByRecursion, enumerate_from}
 use Rattle.std.proofs.Common.{refl, sym, subst, ◌∙◌, arith, inl, inr}
 use Rattle.std.specs.Result.{IsErrAnd}
 use Rattle.bz_algebra.specs.Numbers.{IsNarrow}
 use Rattle.bz_first.specs.Tests.{AllHold, IsFirstFault, Judges}
+use Rattle.bz_first.proofs.Chains.{passed_on, stopped}
 use Rattle.bz_first.proofs.TestLemmas.{all_behind, all_front}
 use Rattle.bz_num.specs.Dense.{AreNarrow, entry}
 use Rattle.bz_model.specs.declared.BlockPart.{BlockPart}
@@ -27,6 +28,7 @@ use Rattle.bz_tableau.specs.declared.answers.Vals.{Vals}
 use Rattle.bz_tableau.specs.declared.programs.Lp.{Lp}
 use Rattle.bz_std.specs.LowestForms.{IsLowestOf}
 use Rattle.bz_std.specs.Meanings.{MeetsWithin, differences}
+use Rattle.bz_std.specs.NumberLists.{HasNumbers}
 use Rattle.bz_std.specs.Tasks.{IsSeparationLp, separation}
 use Rattle.bz_std.proofs.LowestForms.{block_holds, low_positive, rows_hold}
 use Rattle.bz_event.specs.Failing.{IsWideFault, OthersHold}
@@ -38,7 +40,7 @@ use Rattle.bz_sep.specs.Outcomes.{Answers, Fills, IsNoBrokenTest, fill_answered}
 -- a list of narrow numbers
 pub all_narrow : (xs : List ℤ) → AreNarrow xs → AllByRecursion IsNarrow xs
 all_narrow [] h = tt
-all_narrow (x ∷ xs) h = (h 0 (omega arith), all_narrow xs (λ j l. h (j + 1) (omega arith)))
+all_narrow (x ∷ xs) h = (h 0 (omega arith), all_narrow xs (λ j l. h (suc j) (omega arith)))
 
 module _ (m : Model) (part : List ℕ) (d : IsDecomposed m part) (b : ℕ) (point : Master) (z : Vals) (fill : BlockPart)
     (l : IsLowestOf (width_of part b) z.den (differences (entry z.num)) fill.times fill.y) where
@@ -85,6 +87,15 @@ module _ (m : Model) (part : List ℕ) (d : IsDecomposed m part) (b : ℕ) (poin
     -- the first fault of its tests names a wide number
     fault_is : (f : CheckFault) → IsWideFault f → (entry z.num (2 * width_of part b) ≡ pos 0) → IsFirstFault (fill_tests m part b point way fill) f → Fills m part b point way z (Err f)
     fault_is (fault.Wide list at) w stays h = record { stays = stays; fill = fill; lowest = l; wide = first_fails (fill_tests m part b point way fill) (fault.Wide list at) h }
+    fault_is fault.Shape w stays h = absurd w
+    fault_is (fault.Point p at) w stays h = absurd w
+    fault_is (fault.Cost block) w stays h = absurd w
+    fault_is fault.Value w stays h = absurd w
+    fault_is fault.Ray w stays h = absurd w
+    fault_is (fault.Cut i) w stays h = absurd w
+    fault_is (fault.Cover node) w stays h = absurd w
+    fault_is (fault.Leaf node) w stays h = absurd w
+    fault_is fault.OutOfMemory w stays h = absurd w
 
     pub is_wide_fill : (f : CheckFault) → (entry z.num (2 * width_of part b) ≡ pos 0) → IsFirstFault (fill_tests m part b point way fill) f → Fills m part b point way z (Err f)
     is_wide_fill f stays h = fault_is f (only_wide (fill_tests m part b point way fill) f (fill_others way k) h) stays h
@@ -98,7 +109,14 @@ fills_passed m part b point way z f (Err g) told h = subst (λ (e : CheckFault).
 no_broken : (m : Model) (part : List ℕ) (b : ℕ) (point : Master) (way : Mode) (z : Vals) (f : CheckFault) → Fills m part b point way z (Err f) → IsNoBrokenTest f
 no_broken m part b point way z (fault.Wide list at) h = tt
 no_broken m part b point way z fault.OutOfMemory h = tt
-no_broken m part b point way z _ h = absurd ?
+no_broken m part b point way z fault.Shape h = h
+no_broken m part b point way z (fault.Point p at) h = h
+no_broken m part b point way z (fault.Cost block) h = h
+no_broken m part b point way z fault.Value h = h
+no_broken m part b point way z fault.Ray h = h
+no_broken m part b point way z (fault.Cut i) h = h
+no_broken m part b point way z (fault.Cover node) h = h
+no_broken m part b point way z (fault.Leaf node) h = h
 
 pub none_broken : (m : Model) (part : List ℕ) (b : ℕ) (point : Master) (way : Mode) (z : Vals) (filled : Result BlockPart CheckFault) → Fills m part b point way z filled → IfErr filled IsNoBrokenTest
 none_broken m part b point way z (Ok fill) h = tt
@@ -110,4 +128,28 @@ module _ (m : Model) (part : List ℕ) (b : ℕ) (point : Master) (way : Mode) (
   fill_answers (Ok fill) h = (s, h)
   fill_answers (Err (fault.Wide list at)) h = (s, refl, refl, record { z = z; y = y; least = l; sum = inr h })
   fill_answers (Err fault.OutOfMemory) h = tt
-  fill_answers (Err _) h = ?
+  fill_answers (Err fault.Shape) h = absurd h
+  fill_answers (Err (fault.Point p at)) h = absurd h
+  fill_answers (Err (fault.Cost block)) h = absurd h
+  fill_answers (Err fault.Value) h = absurd h
+  fill_answers (Err fault.Ray) h = absurd h
+  fill_answers (Err (fault.Cut i)) h = absurd h
+  fill_answers (Err (fault.Cover node)) h = absurd h
+  fill_answers (Err (fault.Leaf node)) h = absurd h
+
+-- ---- the tests of a fill
+-- a fault of the block's tests
+pub block_stopped : (m : Model) (part : List ℕ) (b : ℕ) (point : Master) (fill : BlockPart) (way : Mode) {T : Type 0} (f : CheckFault) (result : Result T CheckFault) → IsErrAnd result (λ g. g ≡ f) → IsFirstFault (block_tests m part point (b, fill)) f → Judges (fill_tests m part b point way fill) result
+block_stopped m part b point fill mode.Cost f result told h = stopped (block_tests m part point (b, fill)) (cost_tests m part point (b, fill)) f result told h
+block_stopped m part b point fill mode.Point f result told h = passed_on (block_tests m part point (b, fill)) f result told h
+
+-- the lowest form of the first numbers of a function
+pub lowest_of : (n : ℕ) (f : ℕ → ℤ) (den : ℤ) (values : List ℤ) (low : ℤ) (lowest : List ℤ) → HasNumbers n f values → IsLowestOf (length values) den (entry values) low lowest → IsLowestOf n den f low lowest
+lowest_of n f den values low lowest h l = record {
+  count = l.count ∙ h.width;
+  times = l.times;
+  positive = l.positive;
+  den_is = l.den_is;
+  values_are = λ j i. l.values_are j (omega (arith, h.width)) ∙ h.numbers j i;
+  lowest = λ d g all. l.lowest d g (λ j i. all j (omega (arith, h.width)));
+}

@@ -5,6 +5,7 @@ use Rattle.bz_model.specs.declared.Master.{Master}
 use Rattle.bz_model.specs.declared.Model.{Model}
 use Rattle.bz_cut.specs.declared.Cut.{Cut}
 use Rattle.bz_cut.specs.declared.Mode.{Mode}
+use Rattle.bz_cut.specs.declared.Mode.TheVariants as mode
 use Rattle.bz_judge.specs.declared.faults.CheckFault.{CheckFault}
 use Rattle.bz_judge.specs.declared.faults.CheckFault.TheVariants as fault
 use Rattle.bz_judge.specs.WideLists.{cut_sums}
@@ -22,6 +23,11 @@ use Rattle.bz_event.specs.declared.answers.SepAnswer.{SepAnswer}
 use Rattle.bz_event.specs.declared.answers.SepAnswer.TheVariants as answer
 use Rattle.bz_event.specs.Separations.{IsFillAnswer, IsSepAnswer}
 use Rattle.bz_event.specs.Stops.{IsWideFillSum, IsWideInSeparation}
+
+-- how many rows of a separation hold the block's cost to its eta
+abbrev pub cost_rows : Mode → ℕ
+cost_rows mode.Cost = 1
+cost_rows mode.Point = 0
 
 -- ---- in the words of a program's solution
 -- why the program wasn't built

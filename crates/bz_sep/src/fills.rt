@@ -2,6 +2,7 @@
 ghost use Rattle.std.specs.Prelude.{◌≡◌, ◌<◌, ◌≤◌, ◌*◌, ℕ, pos, ◌≤ℤ◌, IfOk, length};
 ghost use Rattle.bz_num.specs.Dense.{entry};
 ghost use Rattle.bz_model.specs.Parting.{blocks_of, width_of};
+ghost use Rattle.bz_model.specs.Splits.{IsSplit};
 ghost use Rattle.bz_first.specs.Tests.{Judges};
 ghost use Rattle.bz_std.specs.Meanings.{differences as differences_of, MeetsWithin};
 ghost use Rattle.bz_std.specs.LowestForms.{IsLowestOf};
@@ -58,6 +59,7 @@ pub(crate) fn judged_fill(
     task: &SepTask,
     z: &Vals,
 ) -> Result<BlockPart, CheckFault>
+    requires split { IsSplit split.now }
     requires first { 0 < task.now.block }
     requires last { task.now.block ≤ blocks_of split.now.part }
     requires point { IsMasterOf split.now.part task.now.point }

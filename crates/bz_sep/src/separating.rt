@@ -1,30 +1,29 @@
 //! The separation of a block at a posted point.
-ghost use Rattle.std.specs.Prelude.{◌≡◌, ◌<◌, ◌≤◌, ◌*◌, IfErr, IfOk, length};
+ghost use Rattle.std.specs.Prelude.{◌≡◌, ◌<◌, ◌≤◌, IfErr, IfOk, length};
 ghost use Rattle.bz_num.specs.Dense.{entry};
-ghost use Rattle.bz_model.specs.Parting.{blocks_of, width_of};
+ghost use Rattle.bz_model.specs.Parting.{blocks_of};
 ghost use Rattle.bz_tableau.specs.Programs.{IsLp};
 ghost use Rattle.bz_std.specs.Tasks.{IsMasterOf, IsSeparationLp};
 ghost use Rattle.bz_event.specs.Separations.{SolvesSeparation};
 ghost use Rattle.bz_event.specs.Stops.{EndsSeparation};
 ghost use Rattle.bz_sep.specs.Outcomes.{Answers};
 
-use crate::cuts::separation_cut;
+use crate::cuts::eta_multiplier;
 use crate::fills::judged_fill;
 use crate::outcomes::{cut_answer, fill_answer, no_program, unbuilt_program};
 use bz_event::{SepAnswer, SepTask, Solved, TaskName, TaskStop, carry};
 use bz_lex::relax;
 use bz_model::Split;
-use bz_std::separation_lp;
+use bz_std::{fitting_cut, separation_lp};
 use bz_tableau::{Answer, Lp, LpStop, Vals};
 use std::alloc::Global;
 
-/// The least rise times the point's denominator: the number of the column behind those of the block's positions.
-fn least_rise(split: &Split, block: u32, z: &Vals) -> i128
-    requires last { block ≤ blocks_of split.now.part }
-    requires inside { 2 * width_of split.now.part block < length z.now.num }
-    ensures { result ≡ entry z.now.num (2 * width_of split.now.part block) }
+/// The least rise times the point's denominator: the number of the column behind those of the program.
+fn least_rise(lp: &Lp, z: &Vals) -> i128
+    requires { lp.now.columns < length z.now.num }
+    ensures { result ≡ entry z.now.num lp.now.columns }
 {
-    z.num.as_slice()[2 * split.width(block) as usize]
+    z.num.as_slice()[lp.columns as usize]
 }
 
 /// What the program of the separation comes to: with a least rise above 0 the cut of the basis, else the block's part.
@@ -44,8 +43,10 @@ fn find_answer(
     let Answer::Least { basis, z, y } = relax(alloc, lp)? else {
         unreachable!()
     };
-    if 0 < least_rise(split, task.block, &z) {
-        let made = separation_cut(alloc, split, task.block, task.mode, y.num.as_slice());
+    let inequalities = split.inequalities(task.block).len();
+    if 0 < least_rise(lp, &z) {
+        let raw = eta_multiplier(task.mode, inequalities, y.num.as_slice());
+        let made = fitting_cut(alloc, split, task.block, y.num.as_slice(), raw);
         cut_answer(basis, made)
     } else {
         fill_answer(basis, judged_fill(alloc, split, task, &z))

@@ -1,0 +1,4 @@
+pub mod DirectionTests
+pub mod FloorAnswers
+pub mod PlacedRays
+pub mod Primitives
