@@ -33,13 +33,19 @@ use Rattle.bz_event.specs.Floors.{placed}
 
 -- ---- the numbers of the placed direction
 abbrev pub number_of : List ℕ → ℕ → List ℤ → ℕ × ℕ → ℤ
-number_of part b d e = (if e.1 == b then coordinate d (position_of part e.0) else pos 0)
+number_of part b d = λ e. (if e.1 == b then coordinate d (position_of part e.0) else pos 0)
 
 pub length-placed : (part : List ℕ) (b : ℕ) (d : List ℤ) → length (placed part b d) ≡ length part
 length-placed part b d = length-map (enumerate_from 0 part) (number_of part b d) ∙ length-enumerate_from 0 part
 
 pub placed_at : (part : List ℕ) (b : ℕ) (d : List ℤ) (j : ℕ) → j < length part → coordinate (placed part b d) j ≡ number_of part b d (j, part_of part j)
-placed_at part b d j l = get_or-map (number_of part b d) (enumerate_from 0 part) j (0, 0) (pos 0) (omega (arith, l, length-enumerate_from 0 part)) ∙ ap (number_of part b d) (get_or-enumerate_from 0 part j (0, 0) l)
+placed_at part b d j l = get_or-map (number_of part b d) (enumerate_from 0 part) j (0, 0) (pos 0) (omega (arith, l, length-enumerate_from 0 part)) ∙ ap (number_of part b d) (get_or-enumerate_from 0 part j (0, 0) l ∙ pair)
+  where
+    same : 0 + j ≡ j
+    same = omega arith
+
+    pair : ◌≡◌ {A = ℕ × ℕ} (0 + j, get_or part j 0) (j, part_of part j)
+    pair = λ i. (same i, part_of part j)
 
 pub placed_here : (part : List ℕ) (b : ℕ) (d : List ℤ) (j : ℕ) → j < length part → part_of part j ≡ b → coordinate (placed part b d) j ≡ coordinate d (position_of part j)
 placed_here part b d j l e = placed_at part b d j l ∙ rw (eq-eqb (part_of part j) b e) refl
@@ -61,8 +67,8 @@ where_there P Q (Some a) f h = f a h
 
 row_allows : (ray : List ℤ) (row : Row) → RowHolds row ray (pos 0) → RowAllows ray row
 row_allows ray row h = record {
-  at_least = where_there (λ l. (l *ℤ pos 0) ≤ℤ dot row.terms (coordinate ray)) (λ l. (pos 0) ≤ℤ dot row.terms (coordinate ray)) row.lower (λ l k. rw mul_zero l at k) h.at_least;
-  at_most = where_there (λ u. dot row.terms (coordinate ray) ≤ℤ (u *ℤ pos 0)) (λ u. dot row.terms (coordinate ray) ≤ℤ (pos 0)) row.upper (λ u k. rw mul_zero u at k) h.at_most;
+  at_least = where_there (λ l. (l *ℤ pos 0) ≤ℤ dot row.terms (coordinate ray)) (λ l. (pos 0) ≤ℤ dot row.terms (coordinate ray)) row.lower (λ l k. rw (mul_zero l) at k) h.at_least;
+  at_most = where_there (λ u. dot row.terms (coordinate ray) ≤ℤ (u *ℤ pos 0)) (λ u. dot row.terms (coordinate ray) ≤ℤ (pos 0)) row.upper (λ u k. rw (mul_zero u) at k) h.at_most;
 }
 
 not_below : (f : Frac) (x : ℤ) → (f.num *ℤ pos 0) ≤ℤ (f.den *ℤ x) → (pos 0) ≤ℤ x

@@ -1,6 +1,7 @@
 //! Directions along which a block's cost falls.
 ghost use Rattle.std.specs.Prelude.{◌≡◌, ◌<◌, ◌≤◌, ◌*◌, ℕ, pos, ◌≤ℤ◌, IfOk, length};
 ghost use Rattle.bz_num.specs.Dense.{AreNarrow, entry};
+ghost use Rattle.bz_model.specs.Decomposed.{IsDecomposed};
 ghost use Rattle.bz_model.specs.Parting.{blocks_of, width_of};
 ghost use Rattle.bz_std.specs.Making.{HasSome};
 ghost use Rattle.bz_std.specs.Meanings.{differences as differences_of, IsFallAlong};
@@ -51,6 +52,7 @@ pub(crate) fn judged_direction(
     block: u32,
     d: &[i128],
 ) -> Result<Items<i128>, CheckFault>
+    requires split { IsDecomposed split.now.model split.now.part }
     requires first { 0 < block }
     requires last { block ≤ blocks_of split.now.part }
     requires inside { 2 * width_of split.now.part block ≤ length d.now }

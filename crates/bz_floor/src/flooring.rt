@@ -1,5 +1,6 @@
 //! The floor of a block.
 ghost use Rattle.std.specs.Prelude.{◌≡◌, ◌<◌, ◌≤◌, IfErr, IfOk};
+ghost use Rattle.bz_model.specs.Decomposed.{IsDecomposed};
 ghost use Rattle.bz_model.specs.Parting.{blocks_of};
 ghost use Rattle.bz_tableau.specs.Programs.{IsLp};
 ghost use Rattle.bz_std.specs.Posed.{IsProgramOf};
@@ -17,6 +18,13 @@ use bz_std::{fitting_cut, floor_lp};
 use bz_tableau::{Answer, Lp, LpStop};
 use std::alloc::Global;
 
+/// A split's model may be solved by its partition. It does nothing else than say so.
+fn decomposed(split: &Split)
+    ensures { IsDecomposed split.now.model split.now.part }
+{
+    let _blocks = split.blocks();
+}
+
 /// What the program of the floor comes to: the cut of a basis that shows a least cost, or a direction along which the cost
 /// falls.
 fn find_answer(
@@ -31,6 +39,7 @@ fn find_answer(
     requires is_lp { IsLp lp.now }
     ensures { Answers split.now.model split.now.part block lp.now result }
 {
+    decomposed(split);
     match solve(alloc, lp)? {
         Answer::Least { basis, y, .. } => {
             let made = fitting_cut(alloc, split, block, y.num.as_slice(), y.den);
