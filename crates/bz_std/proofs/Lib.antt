@@ -8,6 +8,7 @@ pub mod CutNumbers
 pub mod CutsMade
 pub mod CutsOfBases
 pub mod Entries
+pub mod FittingCuts
 pub mod FloorEnds
 pub mod LeafNumbers
 pub mod LeavesMade

@@ -1,6 +1,7 @@
 pub mod Compared
 pub mod CutsFrom
 pub mod CutsOfBases
+pub mod Fitting
 pub mod Floored
 pub mod Laws
 pub mod LeavesFrom

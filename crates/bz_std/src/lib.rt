@@ -9,6 +9,7 @@ mod comparison;
 mod cost_comparison;
 mod costs;
 mod cuts;
+mod fitting;
 mod floors;
 mod laws;
 mod leaves;
@@ -23,6 +24,7 @@ mod variables;
 
 pub use comparison::{is_floor_lp, is_node_lp, is_separation_lp};
 pub use cuts::{made_cut, wide_cuts_do_not_fit};
+pub use fitting::fitting_cut;
 pub use floors::floor_lp;
 pub use laws::{
     answers_cross, cuts_are_of_bases, floors_have_one_end, lowest_forms_meet, made_cuts_are_valid,

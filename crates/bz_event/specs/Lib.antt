@@ -1,0 +1,6 @@
+pub mod Carried
+pub mod Failing
+pub mod Floors
+pub mod Nodes
+pub mod Separations
+pub mod Stops
