@@ -1,3 +1,4 @@
+pub mod Carried
 pub mod Failing
 pub mod Floors
 pub mod Nodes

@@ -4,7 +4,9 @@
 #![tactic(auto)]
 
 mod answers;
+mod carrying;
 mod tasks;
 
 pub use answers::{FloorAnswer, NodeAnswer, SepAnswer, Solved, TaskStop};
+pub use carrying::carry;
 pub use tasks::{NodeTask, SepTask, TaskName};

@@ -1,0 +1,87 @@
+//! The point of a node whose integer columns are whole.
+ghost use Rattle.std.specs.Prelude.{◌≡◌, ◌+◌, ◌<◌, ◌≤◌, ◌++◌, pos, ◌<ℤ◌, IfErr, IfOk, length};
+ghost use Rattle.std.specs.List.{AllByRecursion};
+ghost use Rattle.bz_algebra.specs.Numbers.{IsNarrow};
+ghost use Rattle.bz_algebra.specs.Sums.{dot};
+ghost use Rattle.bz_num.specs.Dense.{AreNarrow, entry};
+ghost use Rattle.bz_model.specs.Parting.{blocks_of, width_of};
+ghost use Rattle.bz_model.specs.Points.{IsWhole};
+ghost use Rattle.bz_cut.specs.declared.Mode.TheVariants as mode;
+ghost use Rattle.bz_std.specs.Meanings.{MeetsWithin, differences};
+ghost use Rattle.bz_std.specs.NumberLists.{HasNumbers};
+ghost use Rattle.bz_std.specs.Tasks.{node_cost};
+ghost use Rattle.bz_event.specs.Nodes.{HasLeafOfValue};
+ghost use Rattle.bz_node.specs.NodePrograms.{AnswersNode, IsNodeProgram, cuts_of, mode_of, model_of, part_of, posed_of, region_of};
+ghost use Rattle.bz_node.specs.PointSteps.{IsPointOf, StopsPoint};
+
+use crate::programs::{NodeProgram, wide_sum_stop};
+use crate::sums::wide_sum;
+use bz_event::NodeAnswer;
+use bz_model::{Master, Split};
+use bz_num::{Items, OutOfMemory};
+use bz_std::lowest;
+use bz_tableau::{LpStop, Vals};
+use bz_tree::Leaf;
+use std::alloc::Global;
+
+/// The first `width` numbers of the list, and the others.
+fn parted(
+    alloc: Global,
+    numbers: &[i128],
+    width: usize,
+) -> Result<(Items<i128>, Items<i128>), OutOfMemory>
+    requires { width ≤ length numbers.now }
+    ensures whole { IfOk result (λ lists. lists.0 ++ lists.1 ≡ numbers.now) }
+    ensures width { IfOk result (λ lists. length lists.0 ≡ width) }
+{
+    let (front, rest) = numbers.split_at(width);
+    let front = Vec::from_slice(alloc, front)?;
+    let rest = Vec::from_slice(alloc, rest)?;
+    Ok((Items::from_vec(front), Items::from_vec(rest)))
+}
+
+/// The point of the numbers over the denominator, in lowest form: those of the master's positions, and then the etas.
+fn point_of(
+    alloc: Global,
+    split: &Split,
+    numbers: Vec<i128>,
+    den: i128,
+) -> Result<Master, OutOfMemory>
+    requires count { length numbers.items ≡ width_of split.now.part 0 + blocks_of split.now.part }
+    requires narrow { AreNarrow numbers.items }
+    requires den_narrow { IsNarrow den }
+    requires positive { pos 0 <ℤ den }
+    ensures { IfOk result (IsPointOf split.now.part den (entry numbers.items)) }
+{
+    let (den, values) = lowest(numbers, den);
+    let (x, eta) = parted(alloc, values.as_slice(), split.width(0) as usize)?;
+    Ok(Master { den, x, eta })
+}
+
+/// The answer of a node at whose least point z each integer column is whole; its variables have these numbers. Where a
+/// sum of the point is wide there is none.
+pub fn point_answer(
+    alloc: Global,
+    program: NodeProgram<'_>,
+    basis: Items<u32>,
+    z: &Vals,
+    numbers: Items<i128>,
+    leaf: Option<Leaf>,
+) -> Result<NodeAnswer, LpStop>
+    let v = differences (entry z.now.num)
+    let n = width_of (part_of program) 0 + blocks_of (part_of program)
+    requires program { IsNodeProgram program }
+    requires meets { MeetsWithin (posed_of program) v z.now.den (pos 0) }
+    requires numbers { HasNumbers n v numbers }
+    requires whole { AllByRecursion (λ p. IsWhole (v p) z.now.den) program.positions.now }
+    requires leaf { HasLeafOfValue (model_of program) (part_of program) (region_of program) (cuts_of program)
+        (mode_of program) (dot (node_cost (model_of program) (part_of program) mode.Cost) v) z.now.den leaf }
+    ensures answer { IfOk result (AnswersNode program) }
+    ensures stop { IfErr result (StopsPoint (model_of program) (part_of program) (mode_of program) z.now basis) }
+{
+    let point = point_of(alloc, program.split, numbers.into_vec(), z.den)?;
+    match wide_sum(program.split, program.task.mode, &point) {
+        None => Ok(NodeAnswer::Point { point, leaf }),
+        Some((list, at)) => Err(wide_sum_stop(false, basis, list, at)),
+    }
+}
