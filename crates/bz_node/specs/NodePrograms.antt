@@ -1,10 +1,10 @@
 -- A node with its program, and what each step of its solution comes to.
-use Rattle.std.specs.Prelude.{ℕ, ◌≡◌, ◌×◌, ◌⊎◌, ℤ, pos, ◌≤ℤ◌, List, length, Option, Some, None, false, true}
+use Rattle.std.specs.Prelude.{ℕ, ◌+◌, ◌≡◌, ℤ, pos, ◌≤ℤ◌, List, length, Option, Some, None}
 use Rattle.std.specs.List.{AllByRecursion}
-use Rattle.bz_algebra.specs.Sums.{dot}
 use Rattle.bz_num.specs.Dense.{entry}
 use Rattle.bz_model.specs.Decomposed.{IsDecomposed}
 use Rattle.bz_model.specs.declared.Model.{Model}
+use Rattle.bz_model.specs.Parting.{blocks_of, width_of}
 use Rattle.bz_cut.specs.declared.Cut.{Cut}
 use Rattle.bz_cut.specs.declared.Mode.{Mode}
 use Rattle.bz_cut.specs.declared.Mode.TheVariants as mode
@@ -46,9 +46,16 @@ cuts_of n = n.task.now.cuts
 abbrev pub mode_of : NodeProgram → Mode
 mode_of n = n.task.now.mode
 
--- the program over the master's positions and the etas
+-- the program over the master's positions and the etas, in a mode and in the node's own
+abbrev pub posed_in : NodeProgram → Mode → Posed
+posed_in n way = node (model_of n) (part_of n) (region_of n) (cuts_of n) way
+
 abbrev pub posed_of : NodeProgram → Posed
-posed_of n = node (model_of n) (part_of n) (region_of n) (cuts_of n) (mode_of n)
+posed_of n = posed_in n (mode_of n)
+
+-- how many variables it has
+abbrev pub variables_of : NodeProgram → ℕ
+variables_of n = width_of (part_of n) 0 + blocks_of (part_of n)
 
 -- The task's lists fit the split, the positions are those of the integer columns, and the program is the node's.
 pub record IsNodeProgram (n : NodeProgram) : Type 0 where
@@ -84,8 +91,8 @@ pub record AreLeafNumbers (n : NodeProgram) (y : List ℤ) (by : ℤ) : Type 0 w
   pub holds : (leaf : Leaf) → IsLeafFrom (posed_of n) (entry y) by leaf → HoldsIn n leaf
 
 -- the leaf of y and `by` holds over the node's box and cuts, with no sum or product wide that tells so
-pub record IsFittingLeaf (n : NodeProgram) (y : ℕ → ℤ) (by : ℤ) (leaf : Leaf) : Type 0 where
-  pub made : IsLeafFrom (posed_of n) y by leaf
+pub record IsFittingLeaf (n : NodeProgram) (way : Mode) (y : ℕ → ℤ) (by : ℤ) (leaf : Leaf) : Type 0 where
+  pub made : IsLeafFrom (posed_in n way) y by leaf
   pub holds : HoldsIn n leaf
   pub fits : FitsIn n leaf
 
@@ -96,7 +103,7 @@ StopsFitting n y by make_stop.OutOfMemory = Unit {0}
 
 -- in mode Cost the leaf of y fits, and in mode Point there is none
 abbrev pub HasCostLeaf : NodeProgram → Mode → Vals → Option Leaf → Type 0
-HasCostLeaf n mode.Cost y (Some leaf) = IsFittingLeaf n (entry y.num) y.den leaf
+HasCostLeaf n mode.Cost y (Some leaf) = IsFittingLeaf n mode.Cost (entry y.num) y.den leaf
 HasCostLeaf n mode.Cost y None = ⊥
 HasCostLeaf n mode.Point y leaf = leaf ≡ None
 

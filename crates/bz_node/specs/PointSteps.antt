@@ -1,11 +1,17 @@
 -- What the steps from a least point that is whole come to.
-use Rattle.std.specs.Prelude.{ℕ, ◌+◌, ◌×◌, ◌≡◌, ℤ, List, ◌++◌, Option, Some, None, false}
+use Rattle.std.specs.Prelude.{ℕ, ◌+◌, ◌≡◌, ℤ, pos, List, ◌++◌, Option, Some, None, false}
 use Rattle.std.specs.List.{AllByRecursion}
+use Rattle.bz_algebra.specs.Sums.{dot}
+use Rattle.bz_num.specs.Dense.{entry}
 use Rattle.bz_model.specs.declared.Master.{Master}
 use Rattle.bz_model.specs.declared.Model.{Model}
 use Rattle.bz_model.specs.Parting.{blocks_of, inequalities_of, width_of}
 use Rattle.bz_model.specs.PointFits.{FitsInMaster}
+use Rattle.bz_model.specs.Points.{IsWhole}
 use Rattle.bz_cut.specs.declared.Mode.{Mode}
+use Rattle.bz_cut.specs.declared.Mode.TheVariants as mode
+use Rattle.bz_tree.specs.declared.Leaf.{Leaf}
+use Rattle.bz_tree.specs.Integers.{positions_of}
 use Rattle.bz_judge.specs.declared.faults.CheckFault.TheVariants as fault
 use Rattle.bz_tableau.specs.declared.answers.LpStop.{LpStop}
 use Rattle.bz_tableau.specs.declared.answers.LpStop.TheVariants as lp_stop
@@ -13,15 +19,25 @@ use Rattle.bz_tableau.specs.declared.answers.Vals.{Vals}
 use Rattle.bz_tableau.specs.declared.answers.WideAt.{WideAt}
 use Rattle.bz_tableau.specs.declared.answers.WideAt.TheVariants.{Build, Pivot, Den, Fold}
 use Rattle.bz_std.specs.LowestForms.{IsLowestOf}
-use Rattle.bz_std.specs.Tasks.{IsMasterOf}
+use Rattle.bz_std.specs.Meanings.{MeetsWithin, differences}
+use Rattle.bz_std.specs.Tasks.{IsMasterOf, node_cost}
 use Rattle.bz_event.specs.Failing.{Fails}
-use Rattle.bz_event.specs.Nodes.{FitsValue}
+use Rattle.bz_event.specs.Nodes.{FitsValue, HasLeafOfValue}
 use Rattle.bz_event.specs.Stops.{IsWidePointSum, master_tests}
+use Rattle.bz_node.specs.declared.programs.NodeProgram.{NodeProgram}
+use Rattle.bz_node.specs.NodePrograms.{cuts_of, mode_of, model_of, part_of, posed_of, region_of}
 
 -- the point has an eta for each block, and its numbers are f / den in lowest form
 pub record IsPointOf (part : List ℕ) (den : ℤ) (f : ℕ → ℤ) (point : Master) : Type 0 where
   pub shape : IsMasterOf part point
   pub lowest : IsLowestOf (width_of part 0 + blocks_of part) den f point.den (point.x ++ point.eta)
+
+-- the least point z meets the node and is whole on the integer columns, and the leaf is of its cost
+pub record IsWholePoint (n : NodeProgram) (z : Vals) (leaf : Option Leaf) : Type 0 where
+  pub meets : MeetsWithin (posed_of n) (differences (entry z.num)) z.den (pos 0)
+  pub whole : AllByRecursion (λ p. IsWhole (differences (entry z.num) p) z.den) (positions_of (model_of n) (part_of n))
+  pub leaf_is : HasLeafOfValue (model_of n) (part_of n) (region_of n) (cuts_of n) (mode_of n)
+      (dot (node_cost (model_of n) (part_of n) mode.Cost) (differences (entry z.num))) z.den leaf
 
 -- no sum of the point is wide, or the one at this place of this list is
 abbrev pub FindsWideSum : Model → List ℕ → Mode → Master → Option (ℕ × ℕ) → Type 0

@@ -2,7 +2,7 @@
 ghost use Rattle.std.specs.Prelude.{◌≡◌, IfErr, IfOk, MatchBool};
 ghost use Rattle.bz_num.specs.Dense.{entry};
 ghost use Rattle.bz_cut.specs.declared.Mode.TheVariants as mode;
-ghost use Rattle.bz_node.specs.NodePrograms.{AreLeafNumbers, FitsIn, HasCostLeaf, HoldsIn, IsFittingLeaf, IsNodeProgram, StopsCostLeaf, StopsFitting};
+ghost use Rattle.bz_node.specs.NodePrograms.{AreLeafNumbers, FitsIn, HasCostLeaf, HoldsIn, IsFittingLeaf, IsNodeProgram, StopsCostLeaf, StopsFitting, mode_of};
 
 use crate::programs::NodeProgram;
 use bz_cut::Mode;
@@ -39,7 +39,7 @@ pub fn fitting_leaf(
 ) -> Result<Leaf, MakeStop>
     requires program { IsNodeProgram program }
     requires numbers { AreLeafNumbers program y.now by }
-    ensures leaf { IfOk result (IsFittingLeaf program (entry y.now) by) }
+    ensures leaf { IfOk result (IsFittingLeaf program (mode_of program) (entry y.now) by) }
     ensures stop { IfErr result (StopsFitting program (entry y.now) by) }
 {
     let leaf = made_leaf(alloc, program.lp, y, by)?;
@@ -56,9 +56,9 @@ pub fn cost_leaf(
     y: &Vals,
 ) -> Result<Option<Leaf>, MakeStop>
     requires program { IsNodeProgram program }
-    requires numbers { program.task.now.mode ≡ mode.Cost → AreLeafNumbers program y.now.num y.now.den }
-    ensures leaf { IfOk result (HasCostLeaf program program.task.now.mode y.now) }
-    ensures stop { IfErr result (StopsCostLeaf program program.task.now.mode y.now) }
+    requires numbers { mode_of program ≡ mode.Cost → AreLeafNumbers program y.now.num y.now.den }
+    ensures leaf { IfOk result (HasCostLeaf program (mode_of program) y.now) }
+    ensures stop { IfErr result (StopsCostLeaf program (mode_of program) y.now) }
 {
     match program.task.mode {
         Mode::Cost => {

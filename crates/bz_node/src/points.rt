@@ -1,18 +1,12 @@
 //! The point of a node whose integer columns are whole.
-ghost use Rattle.std.specs.Prelude.{◌≡◌, ◌+◌, ◌<◌, ◌≤◌, ◌++◌, pos, ◌<ℤ◌, IfErr, IfOk, length};
-ghost use Rattle.std.specs.List.{AllByRecursion};
+ghost use Rattle.std.specs.Prelude.{◌≡◌, ◌+◌, ◌≤◌, ◌++◌, pos, ◌<ℤ◌, IfErr, IfOk, length};
 ghost use Rattle.bz_algebra.specs.Numbers.{IsNarrow};
-ghost use Rattle.bz_algebra.specs.Sums.{dot};
 ghost use Rattle.bz_num.specs.Dense.{AreNarrow, entry};
 ghost use Rattle.bz_model.specs.Parting.{blocks_of, width_of};
-ghost use Rattle.bz_model.specs.Points.{IsWhole};
-ghost use Rattle.bz_cut.specs.declared.Mode.TheVariants as mode;
-ghost use Rattle.bz_std.specs.Meanings.{MeetsWithin, differences};
+ghost use Rattle.bz_std.specs.Meanings.{differences};
 ghost use Rattle.bz_std.specs.NumberLists.{HasNumbers};
-ghost use Rattle.bz_std.specs.Tasks.{node_cost};
-ghost use Rattle.bz_event.specs.Nodes.{HasLeafOfValue};
-ghost use Rattle.bz_node.specs.NodePrograms.{AnswersNode, IsNodeProgram, cuts_of, mode_of, model_of, part_of, posed_of, region_of};
-ghost use Rattle.bz_node.specs.PointSteps.{IsPointOf, StopsPoint};
+ghost use Rattle.bz_node.specs.NodePrograms.{AnswersNode, IsNodeProgram, mode_of, model_of, part_of, variables_of};
+ghost use Rattle.bz_node.specs.PointSteps.{IsPointOf, IsWholePoint, StopsPoint};
 
 use crate::programs::{NodeProgram, wide_sum_stop};
 use crate::sums::wide_sum;
@@ -68,14 +62,9 @@ pub fn point_answer(
     numbers: Items<i128>,
     leaf: Option<Leaf>,
 ) -> Result<NodeAnswer, LpStop>
-    let v = differences (entry z.now.num)
-    let n = width_of (part_of program) 0 + blocks_of (part_of program)
     requires program { IsNodeProgram program }
-    requires meets { MeetsWithin (posed_of program) v z.now.den (pos 0) }
-    requires numbers { HasNumbers n v numbers }
-    requires whole { AllByRecursion (λ p. IsWhole (v p) z.now.den) program.positions.now }
-    requires leaf { HasLeafOfValue (model_of program) (part_of program) (region_of program) (cuts_of program)
-        (mode_of program) (dot (node_cost (model_of program) (part_of program) mode.Cost) v) z.now.den leaf }
+    requires numbers { HasNumbers (variables_of program) (differences (entry z.now.num)) numbers }
+    requires point { IsWholePoint program z.now leaf }
     ensures answer { IfOk result (AnswersNode program) }
     ensures stop { IfErr result (StopsPoint (model_of program) (part_of program) (mode_of program) z.now basis) }
 {

@@ -1,5 +1,5 @@
 //! Nodes solved.
-ghost use Rattle.std.specs.Prelude.{◌≡◌, ◌+◌, ◌<◌, IfErr, IfOk, length};
+ghost use Rattle.std.specs.Prelude.{◌+◌, ◌<◌, IfErr, IfOk, length};
 ghost use Rattle.std.specs.List.{AllByRecursion};
 ghost use Rattle.bz_model.specs.Limits.{list_limit};
 ghost use Rattle.bz_tree.specs.Ends.{box_of};
@@ -62,16 +62,14 @@ pub fn solve_node(
     split: &Split,
     task: &NodeTask,
 ) -> Result<Solved<NodeAnswer>, TaskStop>
-    let m = split.now.model
-    let part = split.now.part
-    let box = box_of task.now.region
-    let cuts = task.now.cuts
-    requires region { IsBoxOf m box }
-    requires cuts { AllByRecursion (IsCutOfSplit part) cuts }
-    requires few { length cuts + 1024 < list_limit }
-    requires ready { IsReady part cuts task.now.mode }
-    ensures solved { IfOk result (SolvesNode m part task.now.node task.now.front box cuts task.now.mode) }
-    ensures stopped { IfErr result (EndsNode m part task.now.node task.now.front box cuts task.now.mode) }
+    requires region { IsBoxOf split.now.model (box_of task.now.region) }
+    requires cuts { AllByRecursion (IsCutOfSplit split.now.part) task.now.cuts }
+    requires few { length task.now.cuts + 1024 < list_limit }
+    requires ready { IsReady split.now.part task.now.cuts task.now.mode }
+    ensures solved { IfOk result (SolvesNode split.now.model split.now.part task.now.node task.now.front
+        (box_of task.now.region) task.now.cuts task.now.mode) }
+    ensures stopped { IfErr result (EndsNode split.now.model split.now.part task.now.node task.now.front
+        (box_of task.now.region) task.now.cuts task.now.mode) }
 {
     let positions = integer_positions(alloc, split)?;
     let lp = node_lp(

@@ -1,11 +1,9 @@
 //! The sums of a point of the master that meets its node.
 ghost use Rattle.std.specs.Prelude.{◌≡◌};
 ghost use Rattle.std.specs.List.{AllByRecursion};
-ghost use Rattle.bz_num.specs.Fold.{fold_of};
 ghost use Rattle.bz_first.specs.Tests.{Judges};
-ghost use Rattle.bz_model.specs.Parting.{inequalities_of, inner_cost, terms_in};
+ghost use Rattle.bz_model.specs.Parting.{inequalities_of};
 ghost use Rattle.bz_model.specs.PartPoints.{HoldsInMaster};
-ghost use Rattle.bz_model.specs.PointSums.{value_pairs};
 ghost use Rattle.bz_judge.specs.declared.faults.CheckFault.TheVariants as fault;
 ghost use Rattle.bz_judge.specs.ValueTests.{value_tests};
 ghost use Rattle.bz_std.specs.Tasks.{IsMasterOf};
@@ -15,32 +13,14 @@ ghost use Rattle.bz_event.specs.Stops.{master_tests};
 ghost use Rattle.bz_node.specs.PointSteps.{FindsWideSum};
 
 use bz_cut::{Mode, judge_fold};
-use bz_judge::{CheckFault, VALUE_SUM, judge_master_rows, judge_value, wide_in};
+use bz_judge::{CheckFault, VALUE_SUM, judge_master_rows, judge_value, value_sum, wide_in};
 use bz_model::{Master, Split};
-use bz_num::{Folding, WideSum};
-
-/// The master's inner cost with the etas, or its first wide place.
-fn value_sum(split: &Split, point: &Master) -> Result<i128, WideSum>
-    requires { IsMasterOf split.now.part point.now }
-    ensures { result ≡ fold_of (value_pairs (terms_in split.now.part 0 (inner_cost split.now.model)) point.now) }
-{
-    let mut folding = Folding::new();
-    for (position, number) in point.x.as_slice().iter().enumerate() {
-        let cost = split.inner_cost(0, position as u32);
-        if cost != 0 {
-            folding.push(cost, *number)?;
-        }
-    }
-    for eta in point.eta.as_slice() {
-        folding.push(1, *eta)?;
-    }
-    Ok(folding.sum())
-}
 
 /// Tests that no sum is wide of the point's value and of the objective that it states.
 fn judge_own_value(split: &Split, point: &Master) -> Result<(), CheckFault>
     requires { IsMasterOf split.now.part point.now }
-    ensures { Judges (value_tests split.now.model split.now.part point.now (value_of split.now.model split.now.part point.now)) result }
+    ensures { Judges
+        (value_tests split.now.model split.now.part point.now (value_of split.now.model split.now.part point.now)) result }
 {
     let value = judge_fold(value_sum(split, point), wide_in(VALUE_SUM, 0))?;
     judge_value(split, point, value)
