@@ -8,7 +8,7 @@ use Rattle.bz_first.proofs.Facts.{all_at}
 use Rattle.bz_judge.proofs.WholeQuotients.{whole_rest}
 use Rattle.bz_model.specs.Points.{IsWhole}
 use Rattle.bz_model.proofs.MeetingParts.{all_both}
-use Rattle.bz_event.specs.Nodes.{IsFirstFractional, IsRoundedDown}
+use Rattle.bz_event.specs.Nodes.{IsFirstFractional}
 use Rattle.bz_node.specs.Fractional.{FindsFractional}
 
 -- ---- one number
@@ -17,14 +17,12 @@ module _ (x den q r : ℤ) (positive : (pos 0) <ℤ den) (divided : (q *ℤ den)
   pub no_rest : r ≡ pos 0 → IsWhole x den
   no_rest e = (q, omega (arith, ints))
 
-  -- and what leaves one isn't
-  pub some_rest : (r ≡ pos 0 → ⊥) → IsWhole x den → ⊥
-  some_rest n w =
+  -- and what is whole leaves none
+  pub rest_of_whole : IsWhole x den → r ≡ pos 0
+  rest_of_whole w =
       let small : unsigned_abs r < unsigned_abs den = omega (arith, ints) in
-      n (whole_rest w.0 q r den positive (divided ∙ w.1) small)
+      whole_rest w.0 q r den positive (divided ∙ w.1) small
 
-  pub rounded : IsRoundedDown x den q
-  rounded = record { at_most = omega (arith, ints); above = ? }
 
 -- ---- many numbers
 all_from_places : (P : ℕ → Type 0) (ps : List ℕ) → ((k : ℕ) → k < length ps → P (slice_index_or ps k 0)) → AllByRecursion P ps

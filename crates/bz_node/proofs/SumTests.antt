@@ -1,8 +1,10 @@
 -- Of the tests of a point at which the master's inequalities hold, only those fail that a number isn't wide.
-use Rattle.std.specs.Prelude.{ℕ, ◌≡◌, ◌×◌, List, Option, Some, None, Result, Ok, Err}
+use Rattle.std.specs.Prelude.{ℕ, ◌≡◌, List, Option, Some, None, Result, Ok, Err}
 use Rattle.std.specs.List.{AllByRecursion, enumerate_from}
 use Rattle.std.proofs.Common.{refl, inl, inr, subst}
-use Rattle.bz_first.specs.Tests.{AllHold, IsFirstFault, each_of}
+use Rattle.std.specs.Result.{IsErrAnd}
+use Rattle.bz_first.specs.Tests.{AllHold, IsFirstFault, Judges, each_of}
+use Rattle.bz_first.proofs.Chains.{passed_on, stopped}
 use Rattle.bz_first.proofs.TestLemmas.{all_behind, all_front}
 use Rattle.bz_model.specs.declared.Master.{Master}
 use Rattle.bz_model.specs.declared.Model.{Model}
@@ -22,10 +24,10 @@ use Rattle.bz_event.proofs.OnlyWide.{first_fails, only_wide, others_joined, othe
 use Rattle.bz_node.specs.PointSteps.{FindsWideSum}
 
 module _ (m : Model) (part : List ℕ) (point : Master) where
-  abbrev rows : Tests
+  abbrev pub rows : Tests
   rows = each_of (in_master_tests point) (enumerate_from 0 (inequalities_of m part 0))
 
-  abbrev values : Tests
+  abbrev pub values : Tests
   values = value_tests m part point (value_of m part point)
 
   others : (way : Mode) → AllByRecursion (HoldsInMaster point) (inequalities_of m part 0) → OthersHold (master_tests m part way point)
@@ -40,6 +42,11 @@ module _ (m : Model) (part : List ℕ) (point : Master) where
 
   pub wide_fails : (way : Mode) (f : CheckFault) (list at : ℕ) → f ≡ fault.Wide list at → IsFirstFault (master_tests m part way point) f → Fails (master_tests m part way point) (fault.Wide list at)
   wide_fails way f list at e g = subst (Fails (master_tests m part way point)) e (first_fails (master_tests m part way point) f g)
+
+  -- a fault of the inequalities, which come first
+  pub rows_fault : {T : Type 0} (way : Mode) (f : CheckFault) (result : Result T CheckFault) → IsErrAnd result (λ g. g ≡ f) → IsFirstFault rows f → Judges (master_tests m part way point) result
+  rows_fault mode.Cost f result told h = stopped rows values f result told h
+  rows_fault mode.Point f result told h = passed_on rows f result told h
 
   -- where all hold no sum is wide
   pub none_is_wide : (way : Mode) → AllHold (master_tests m part way point) → FindsWideSum m part way point None

@@ -1,5 +1,5 @@
 //! Integer columns whose numbers aren't whole.
-ghost use Rattle.std.specs.Prelude.{◌<◌, MatchBool, pos, ◌<ℤ◌, length};
+ghost use Rattle.std.specs.Prelude.{◌≡◌, ◌↔◌, ◌<◌, IsTrue, pos, ◌<ℤ◌, length};
 ghost use Rattle.std.specs.List.{AllByRecursion};
 ghost use Rattle.bz_num.specs.Dense.{entry};
 ghost use Rattle.bz_model.specs.Points.{IsWhole};
@@ -8,12 +8,19 @@ ghost use Rattle.bz_node.specs.Fractional.{FindsFractional};
 
 use bz_num::divide;
 
+/// Whether the number is 0.
+fn is_zero(number: i128) -> bool
+    ensures { IsTrue result ↔ (number ≡ pos 0) }
+{
+    number == 0
+}
+
 /// Whether the fraction is a whole number.
 fn is_whole(number: i128, den: i128) -> bool
     requires { pos 0 <ℤ den }
-    ensures { MatchBool result (IsWhole number den) (IsWhole number den → ⊥) }
+    ensures { IsTrue result ↔ IsWhole number den }
 {
-    divide(number, den).1 == 0
+    is_zero(divide(number, den).1)
 }
 
 /// The fraction rounded down.

@@ -17,15 +17,15 @@ use std::alloc::Global;
 /// The answer of a node whose program has the least point z, as the basis and its multipliers y show.
 pub fn least_answer(
     alloc: Global,
-    program: NodeProgram<'_>,
+    program: &NodeProgram<'_>,
     basis: Items<u32>,
     z: &Vals,
     y: &Vals,
 ) -> Result<NodeAnswer, LpStop>
-    requires program { IsNodeProgram program }
-    requires least { IsLeast false (program_of program.lp.now) basis z.now y.now }
-    ensures answer { IfOk result (AnswersNode program) }
-    ensures stop { IfErr result (StopsProgram program) }
+    requires program { IsNodeProgram program.now }
+    requires least { IsLeast false (program_of program.now.lp.now) basis z.now y.now }
+    ensures answer { IfOk result (AnswersNode program.now) }
+    ensures stop { IfErr result (StopsProgram program.now) }
 {
     let leaf = match cost_leaf(alloc, program, y) {
         Ok(leaf) => leaf,

@@ -13,10 +13,10 @@ use bz_tree::{Leaf, Sides};
 use std::alloc::Global;
 
 /// Whether no sum or product of a leaf that holds is wide.
-fn fits(program: NodeProgram<'_>, leaf: &Leaf) -> bool
-    requires program { IsNodeProgram program }
-    requires holds { HoldsIn program leaf.now }
-    ensures { MatchBool result (FitsIn program leaf.now) (FitsIn program leaf.now → ⊥) }
+fn fits(program: &NodeProgram<'_>, leaf: &Leaf) -> bool
+    requires program { IsNodeProgram program.now }
+    requires holds { HoldsIn program.now leaf.now }
+    ensures { MatchBool result (FitsIn program.now leaf.now) (FitsIn program.now leaf.now → ⊥) }
 {
     let region = &program.task.region;
     let sides = Sides {
@@ -33,14 +33,14 @@ fn fits(program: NodeProgram<'_>, leaf: &Leaf) -> bool
 /// it holds there is none.
 pub fn fitting_leaf(
     alloc: Global,
-    program: NodeProgram<'_>,
+    program: &NodeProgram<'_>,
     y: &[i128],
     by: i128,
 ) -> Result<Leaf, MakeStop>
-    requires program { IsNodeProgram program }
-    requires numbers { AreLeafNumbers program y.now by }
-    ensures leaf { IfOk result (IsFittingLeaf program (mode_of program) (entry y.now) by) }
-    ensures stop { IfErr result (StopsFitting program (entry y.now) by) }
+    requires program { IsNodeProgram program.now }
+    requires numbers { AreLeafNumbers program.now y.now by }
+    ensures leaf { IfOk result (IsFittingLeaf program.now (mode_of program.now) (entry y.now) by) }
+    ensures stop { IfErr result (StopsFitting program.now (entry y.now) by) }
 {
     let leaf = made_leaf(alloc, program.lp, y, by)?;
     if !fits(program, &leaf) {
@@ -52,13 +52,13 @@ pub fn fitting_leaf(
 /// In mode Cost the leaf of the multipliers of a least point, whose bound over its delta is the point's cost.
 pub fn cost_leaf(
     alloc: Global,
-    program: NodeProgram<'_>,
+    program: &NodeProgram<'_>,
     y: &Vals,
 ) -> Result<Option<Leaf>, MakeStop>
-    requires program { IsNodeProgram program }
-    requires numbers { mode_of program ≡ mode.Cost → AreLeafNumbers program y.now.num y.now.den }
-    ensures leaf { IfOk result (HasCostLeaf program (mode_of program) y.now) }
-    ensures stop { IfErr result (StopsCostLeaf program (mode_of program) y.now) }
+    requires program { IsNodeProgram program.now }
+    requires numbers { mode_of program.now ≡ mode.Cost → AreLeafNumbers program.now y.now.num y.now.den }
+    ensures leaf { IfOk result (HasCostLeaf program.now (mode_of program.now) y.now) }
+    ensures stop { IfErr result (StopsCostLeaf program.now (mode_of program.now) y.now) }
 {
     match program.task.mode {
         Mode::Cost => {

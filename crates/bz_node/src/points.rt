@@ -56,17 +56,17 @@ fn point_of(
 /// sum of the point is wide there is none.
 pub fn point_answer(
     alloc: Global,
-    program: NodeProgram<'_>,
+    program: &NodeProgram<'_>,
     basis: Items<u32>,
     z: &Vals,
     numbers: Items<i128>,
     leaf: Option<Leaf>,
 ) -> Result<NodeAnswer, LpStop>
-    requires program { IsNodeProgram program }
-    requires numbers { HasNumbers (variables_of program) (differences (entry z.now.num)) numbers }
-    requires point { IsWholePoint program z.now leaf }
-    ensures answer { IfOk result (AnswersNode program) }
-    ensures stop { IfErr result (StopsPoint (model_of program) (part_of program) (mode_of program) z.now basis) }
+    requires program { IsNodeProgram program.now }
+    requires numbers { HasNumbers (variables_of program.now) (differences (entry z.now.num)) numbers }
+    requires point { IsWholePoint program.now z.now leaf }
+    ensures answer { IfOk result (AnswersNode program.now) }
+    ensures stop { IfErr result (StopsPoint (model_of program.now) (part_of program.now) (mode_of program.now) z.now basis) }
 {
     let point = point_of(alloc, program.split, numbers.into_vec(), z.den)?;
     match wide_sum(program.split, program.task.mode, &point) {

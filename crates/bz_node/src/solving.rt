@@ -25,14 +25,14 @@ use std::alloc::Global;
 /// The answer of a node whose program has no point, as the basis and its multipliers y show.
 fn empty_answer(
     alloc: Global,
-    program: NodeProgram<'_>,
+    program: &NodeProgram<'_>,
     basis: Items<u32>,
     y: &[i128],
 ) -> Result<NodeAnswer, LpStop>
-    requires program { IsNodeProgram program }
-    requires empty { IsEmpty (program_of program.lp.now) basis y.now }
-    ensures answer { IfOk result (AnswersNode program) }
-    ensures stop { IfErr result (StopsProgram program) }
+    requires program { IsNodeProgram program.now }
+    requires empty { IsEmpty (program_of program.now.lp.now) basis y.now }
+    ensures answer { IfOk result (AnswersNode program.now) }
+    ensures stop { IfErr result (StopsProgram program.now) }
 {
     match fitting_leaf(alloc, program, y, 0) {
         Ok(leaf) => Ok(NodeAnswer::Empty { leaf }),
@@ -41,11 +41,11 @@ fn empty_answer(
 }
 
 /// What a node comes to, by its program.
-fn answer_of(alloc: Global, program: NodeProgram<'_>) -> Result<NodeAnswer, LpStop>
-    requires program { IsNodeProgram program }
-    requires ready { IsReady (part_of program) (cuts_of program) (mode_of program) }
-    ensures answer { IfOk result (AnswersNode program) }
-    ensures stop { IfErr result (StopsProgram program) }
+fn answer_of(alloc: Global, program: &NodeProgram<'_>) -> Result<NodeAnswer, LpStop>
+    requires program { IsNodeProgram program.now }
+    requires ready { IsReady (part_of program.now) (cuts_of program.now) (mode_of program.now) }
+    ensures answer { IfOk result (AnswersNode program.now) }
+    ensures stop { IfErr result (StopsProgram program.now) }
 {
     match solve(alloc, program.lp)? {
         Answer::Least { basis, z, y } => least_answer(alloc, program, basis, &z, &y),
@@ -85,7 +85,7 @@ pub fn solve_node(
         positions: positions.as_slice(),
         lp: &lp,
     };
-    let found = answer_of(alloc, program);
+    let found = answer_of(alloc, &program);
     let name = TaskName::Node {
         node: task.node,
         front: task.front,

@@ -4,7 +4,7 @@ ghost use Rattle.std.specs.List.{AllByRecursion};
 ghost use Rattle.bz_first.specs.Tests.{Judges};
 ghost use Rattle.bz_model.specs.Parting.{inequalities_of};
 ghost use Rattle.bz_model.specs.PartPoints.{HoldsInMaster};
-ghost use Rattle.bz_judge.specs.declared.faults.CheckFault.TheVariants as fault;
+ghost use Rattle.bz_judge.specs.declared.faults.CheckFault.TheVariants.{Wide};
 ghost use Rattle.bz_judge.specs.ValueTests.{value_tests};
 ghost use Rattle.bz_std.specs.Tasks.{IsMasterOf};
 ghost use Rattle.bz_event.specs.Failing.{IsWideFault};
@@ -41,7 +41,7 @@ fn judge_sums(split: &Split, mode: Mode, point: &Master) -> Result<(), CheckFaul
 /// The list and the place there of the sum that a fault names.
 fn wide_place(fault: CheckFault) -> (u32, u32)
     requires { IsWideFault fault }
-    ensures { fault ≡ fault.Wide result.0 result.1 }
+    ensures { fault ≡ Wide result.0 result.1 }
 {
     match fault {
         CheckFault::Wide { list, at } => (list, at),
