@@ -32,6 +32,10 @@ all_from_places P (p ∷ ps) h = (h 0 (omega arith), all_from_places P ps (λ k 
 pub none_fractional : (ps : List ℕ) (v : ℕ → ℤ) (den : ℤ) (k : ℕ) → length ps ≤ k → ((i : ℕ) → i < k → IsWhole (v (slice_index_or ps i 0)) den) → FindsFractional ps v den None
 none_fractional ps v den k l h = all_from_places (λ p. IsWhole (v p) den) ps (λ i b. h i (omega arith))
 
+-- the first is one of the positions
+pub first_inside : (ps : List ℕ) (n : ℕ) (v : ℕ → ℤ) (den : ℤ) (position : ℕ) → AllByRecursion (λ p. p < n) ps → IsFirstFractional ps v den position → position < n
+first_inside ps n v den position inside h = subst (λ (p : ℕ). p < n) h.position_is (all_at (λ p. p < n) ps h.place 0 inside h.inside)
+
 -- the numbers of a list are those of a function
 module _ (ps : List ℕ) (n : ℕ) (f g : ℕ → ℤ) (den : ℤ) (inside : AllByRecursion (λ p. p < n) ps) (same : (j : ℕ) → j < n → f j ≡ g j) where
   at_place : (k : ℕ) → k < length ps → f (slice_index_or ps k 0) ≡ g (slice_index_or ps k 0)

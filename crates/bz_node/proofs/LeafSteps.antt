@@ -24,9 +24,13 @@ use Rattle.bz_judge.proofs.LeavesTold.{leaf_fits, leaf_tested}
 use Rattle.bz_std.specs.CutsFrom.{AreEntries}
 use Rattle.bz_std.specs.Fitting.{IsWideLeaf, unbounded_leaf}
 use Rattle.bz_std.specs.LeavesFrom.{IsLeafFrom}
-use Rattle.bz_std.specs.Making.{HasWideSide}
+use Rattle.bz_std.specs.Making.{HasWideSide, StopsLeaf}
+use Rattle.bz_std.specs.declared.making.MakeStop.{MakeStop}
+use Rattle.bz_std.specs.declared.making.MakeStop.TheVariants as stop
 use Rattle.bz_std.specs.Tasks.{node, side_line}
 use Rattle.bz_std.proofs.LeafNumbers.{leaf_narrow}
+use Rattle.bz_node.specs.declared.programs.NodeProgram.{NodeProgram}
+use Rattle.bz_node.specs.NodePrograms.{IsNodeProgram, StopsFitting, cuts_of, mode_of, model_of, part_of, posed_of, region_of}
 
 module _ (m : Model) (part : List ℕ) (box : Box) (cuts : List Cut) where
   -- where a leaf holds its tests tell whether it fits
@@ -63,3 +67,8 @@ module _ (m : Model) (part : List ℕ) (box : Box) (cuts : List Cut) where
       narrow = narrow;
       wide = λ f. n (whatever_bound leaf made.delta f);
     }
+
+-- no leaf was made
+pub made_stops : (n : NodeProgram) → IsNodeProgram n → (y : ℕ → ℤ) (by : ℤ) → IsNarrow by → (s : MakeStop) → StopsLeaf n.lp.now y s → StopsFitting n y by s
+made_stops n p y by narrow stop.Wide h = side_is_wide (model_of n) (part_of n) (region_of n) (cuts_of n) (mode_of n) y by narrow (h (posed_of n) p.program)
+made_stops n p y by narrow stop.OutOfMemory h = tt

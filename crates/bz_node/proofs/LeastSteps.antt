@@ -7,12 +7,15 @@ use Rattle.bz_algebra.specs.Sums.{dot}
 use Rattle.bz_num.specs.Dense.{entry}
 use Rattle.bz_model.specs.declared.Model.{Model}
 use Rattle.bz_model.specs.Decomposed.{IsDecomposed}
-use Rattle.bz_model.specs.Parting.{blocks_of}
+use Rattle.bz_model.specs.Parting.{blocks_of, width_of}
 use Rattle.bz_cut.specs.declared.Cut.{Cut}
 use Rattle.bz_cut.specs.declared.Mode.{Mode}
 use Rattle.bz_cut.specs.declared.Mode.TheVariants as mode
 use Rattle.bz_tree.specs.declared.Leaf.{Leaf}
 use Rattle.bz_tree.specs.Boxes.{Box}
+use Rattle.bz_tree.specs.Integers.{positions_of}
+use Rattle.bz_first.proofs.Lists.{all_weaker}
+use Rattle.bz_judge.proofs.BetweenTests.{positions_within}
 use Rattle.bz_judge.specs.WideLists.{leaf_sums}
 use Rattle.bz_tableau.specs.Answers.{IsEmpty, IsLeast, IsRay}
 use Rattle.bz_tableau.specs.Programs.{program_of}
@@ -36,7 +39,7 @@ use Rattle.bz_std.proofs.PosedTasks.{node_posed}
 use Rattle.bz_event.specs.Nodes.{HasLeafOfValue, IsEmptyNode, IsReady}
 use Rattle.bz_node.specs.declared.programs.NodeProgram.{NodeProgram}
 use Rattle.bz_node.specs.LeafStops.{leaf_stopped}
-use Rattle.bz_node.specs.NodePrograms.{AreLeafNumbers, HasCostLeaf, IsFittingLeaf, IsNodeProgram, StopsCostLeaf, StopsFitting, StopsProgram, cuts_of, mode_of, model_of, part_of, posed_in, posed_of, region_of}
+use Rattle.bz_node.specs.NodePrograms.{AreLeafNumbers, HasCostLeaf, IsFittingLeaf, IsNodeProgram, StopsCostLeaf, StopsFitting, StopsProgram, cuts_of, mode_of, model_of, part_of, posed_in, posed_of, region_of, variables_of}
 use Rattle.bz_node.specs.PointSteps.{StopsPoint}
 
 -- only in mode Cost there is a leaf that is wide
@@ -47,6 +50,10 @@ wide_in_cost n mode.Point y w = absurd w
 module _ (n : NodeProgram) (p : IsNodeProgram n) where
   posed : IsPosed (posed_of n)
   posed = node_posed (model_of n) (part_of n) p.decomposed (region_of n) (cuts_of n) p.of_split (mode_of n)
+
+  -- the positions of the integer columns are those of variables
+  pub positions_inside : (k : ℕ) → k ≡ variables_of n → AllByRecursion (λ p. p < k) n.positions.now
+  positions_inside k e = rw p.positions_are (all_weaker (λ j. j < width_of (part_of n) 0) (λ j. j < k) (positions_of (model_of n) (part_of n)) (λ j l. omega arith) (positions_within (model_of n) (part_of n) p.decomposed))
 
   -- ---- no point
   module _ (basis : List ℕ) (y : List ℤ) (e : IsEmpty (program_of n.lp.now) basis y) where

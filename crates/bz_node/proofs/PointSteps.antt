@@ -7,7 +7,8 @@ use Rattle.std.proofs.lemmas.Int.{ints}
 use Rattle.bz_algebra.specs.Sums.{dot}
 use Rattle.bz_algebra.proofs.Ring.{*ℤ_assoc, cancel_positive, mul_add, mul_left, mul_zero, one_mul}
 use Rattle.bz_algebra.proofs.SumLemmas.{dot_append, dot_same_below, dot_scale}
-use Rattle.bz_num.specs.Dense.{DividesRow, entry}
+use Rattle.bz_algebra.specs.Numbers.{IsNarrow}
+use Rattle.bz_num.specs.Dense.{AreNarrow, DividesRow, entry}
 use Rattle.bz_model.specs.declared.Master.{Master}
 use Rattle.bz_model.specs.declared.Model.{Model}
 use Rattle.bz_model.specs.Decomposed.{IsDecomposed}
@@ -41,6 +42,26 @@ lowest_same n den f g low values h l = record {
   values_are = λ j b. l.values_are j b ∙ h j b;
   lowest = l.lowest;
 }
+
+pub point_same : (part : List ℕ) (den : ℤ) (f g : ℕ → ℤ) (point : Master) → ((j : ℕ) → j < width_of part 0 + blocks_of part → f j ≡ g j) → IsPointOf part den f point → IsPointOf part den g point
+point_same part den f g point h p = record { shape = p.shape; lowest = lowest_same (width_of part 0 + blocks_of part) den f g point.den (point.x ++ point.eta) h p.lowest }
+
+-- ---- narrow lists
+all_narrow : (xs : List ℤ) → AreNarrow xs → AllByRecursion IsNarrow xs
+all_narrow [] h = tt
+all_narrow (x ∷ xs) h = (h 0 (omega arith), all_narrow xs (λ j l. h (suc j) (omega arith)))
+
+pub narrow_front : (x eta values : List ℤ) → x ++ eta ≡ values → AreNarrow values → AllByRecursion IsNarrow x
+narrow_front x eta values e h =
+    let more : length (x ++ eta) ≡ length x + length eta = length-append x eta in
+    let whole : AreNarrow (x ++ eta) = subst AreNarrow (sym e) h in
+    all_narrow x (λ j l. subst IsNarrow (coordinate_front x eta j l) (whole j (omega arith)))
+
+pub narrow_back : (x eta values : List ℤ) → x ++ eta ≡ values → AreNarrow values → AllByRecursion IsNarrow eta
+narrow_back x eta values e h =
+    let more : length (x ++ eta) ≡ length x + length eta = length-append x eta in
+    let whole : AreNarrow (x ++ eta) = subst AreNarrow (sym e) h in
+    all_narrow eta (λ j l. subst IsNarrow (coordinate_back x eta (length x + j) j refl) (whole (length x + j) (omega arith)))
 
 front_or_back : (j w : ℕ) → (j < w) ⊎ (w ≤ j)
 front_or_back j w = search arith
