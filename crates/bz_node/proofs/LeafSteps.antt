@@ -1,17 +1,15 @@
 -- Leaves that hold, and whether they fit.
-use Rattle.std.specs.Prelude.{ℕ, ◌<◌, ◌≡◌, ℤ, pos, ◌*ℤ◌, ◌≤ℤ◌, List, length, Result, Ok, Err, MatchBool, is_ok, true, false, None}
-use Rattle.std.proofs.Common.{refl, sym, ap, subst, ◌∙◌}
+use Rattle.std.specs.Prelude.{ℕ, ◌≡◌, ℤ, ◌*ℤ◌, List, length, Result, Ok, Err, MatchBool, is_ok}
+use Rattle.std.proofs.Common.{sym, subst}
 use Rattle.std.proofs.lemmas.List.{length-map}
 use Rattle.bz_algebra.specs.Numbers.{IsNarrow}
 use Rattle.bz_algebra.specs.Sums.{coef}
-use Rattle.bz_num.specs.Dense.{entry}
 use Rattle.bz_first.specs.Tests.{Judges}
 use Rattle.bz_first.proofs.TestLemmas.{none_where_all}
 use Rattle.bz_model.specs.declared.Model.{Model}
 use Rattle.bz_model.specs.Parting.{inner_cost, terms_in, width_of}
 use Rattle.bz_cut.specs.declared.Cut.{Cut}
 use Rattle.bz_cut.specs.declared.Mode.{Mode}
-use Rattle.bz_cut.specs.declared.Mode.TheVariants as mode
 use Rattle.bz_cut.specs.Fits.{FitsEquation}
 use Rattle.bz_cut.specs.Rows.{master_at}
 use Rattle.bz_tree.specs.declared.Leaf.{Leaf}

@@ -1,22 +1,17 @@
 -- What the answers of a node's program give.
-use Rattle.std.specs.Prelude.{ℕ, ◌+◌, ◌*◌, ◌<◌, ◌≡◌, ℤ, pos, ◌*ℤ◌, ◌≤ℤ◌, ◌<ℤ◌, List, length, Option, Some, None, true, false}
+use Rattle.std.specs.Prelude.{ℕ, ◌<◌, ◌≡◌, ℤ, pos, List, Option, Some, None, true, false}
 use Rattle.std.specs.List.{AllByRecursion}
-use Rattle.std.proofs.Common.{refl, sym, ap, subst, ◌∙◌, arith, inl, inr}
+use Rattle.std.proofs.Common.{refl, subst, arith, inl, inr}
 use Rattle.std.proofs.lemmas.Int.{ints}
 use Rattle.bz_algebra.specs.Sums.{dot}
 use Rattle.bz_num.specs.Dense.{entry}
-use Rattle.bz_model.specs.declared.Model.{Model}
-use Rattle.bz_model.specs.Decomposed.{IsDecomposed}
-use Rattle.bz_model.specs.Parting.{blocks_of, width_of}
-use Rattle.bz_cut.specs.declared.Cut.{Cut}
+use Rattle.bz_model.specs.Parting.{width_of}
 use Rattle.bz_cut.specs.declared.Mode.{Mode}
 use Rattle.bz_cut.specs.declared.Mode.TheVariants as mode
 use Rattle.bz_tree.specs.declared.Leaf.{Leaf}
-use Rattle.bz_tree.specs.Boxes.{Box}
 use Rattle.bz_tree.specs.Integers.{positions_of}
 use Rattle.bz_first.proofs.Lists.{all_weaker}
 use Rattle.bz_judge.proofs.BetweenTests.{positions_within}
-use Rattle.bz_judge.specs.WideLists.{leaf_sums}
 use Rattle.bz_tableau.specs.Answers.{IsEmpty, IsLeast, IsRay}
 use Rattle.bz_tableau.specs.Programs.{program_of}
 use Rattle.bz_tableau.specs.Stops.{IsTrueStop}
@@ -28,7 +23,7 @@ use Rattle.bz_std.specs.Fitting.{IsWideLeaf}
 use Rattle.bz_std.specs.LeavesFrom.{IsLeafFrom}
 use Rattle.bz_std.specs.Meanings.{IsEmptyBy, IsFallAlong, IsLeastAt, IsPossible, differences}
 use Rattle.bz_std.specs.Posed.{IsPosed}
-use Rattle.bz_std.specs.Tasks.{IsCutOfSplit, node, node_cost}
+use Rattle.bz_std.specs.Tasks.{node_cost}
 use Rattle.bz_std.specs.declared.making.MakeStop.{MakeStop}
 use Rattle.bz_std.specs.declared.making.MakeStop.TheVariants as make_stop
 use Rattle.bz_std.proofs.Combined.{empty_excludes}

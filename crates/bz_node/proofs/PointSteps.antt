@@ -1,14 +1,13 @@
 -- A least point in lowest form: its value, and its leaf.
-use Rattle.std.specs.Prelude.{ℕ, zero, suc, ◌+◌, ◌-◌, ◌<◌, ◌≤◌, ◌≡◌, ◌⊎◌, ℤ, pos, ◌+ℤ◌, ◌*ℤ◌, ◌<ℤ◌, List, [], ◌∷◌, ◌++◌, length, Option, Some, None, unsigned_abs, false}
+use Rattle.std.specs.Prelude.{ℕ, suc, ◌+◌, ◌-◌, ◌<◌, ◌≤◌, ◌≡◌, ◌⊎◌, ℤ, pos, ◌*ℤ◌, ◌<ℤ◌, List, [], ◌∷◌, ◌++◌, length, Option, Some, None, unsigned_abs}
 use Rattle.std.specs.List.{AllByRecursion}
 use Rattle.std.specs.Int.{◌∣◌}
 use Rattle.std.proofs.Common.{refl, sym, ap, subst, ◌∙◌, arith, inl, inr, length-append}
-use Rattle.std.proofs.lemmas.Int.{ints}
 use Rattle.bz_algebra.specs.Sums.{dot}
 use Rattle.bz_algebra.proofs.Ring.{*ℤ_assoc, cancel_positive, mul_add, mul_left, mul_zero, one_mul}
 use Rattle.bz_algebra.proofs.SumLemmas.{dot_append, dot_same_below, dot_scale}
 use Rattle.bz_algebra.specs.Numbers.{IsNarrow}
-use Rattle.bz_num.specs.Dense.{AreNarrow, DividesRow, entry}
+use Rattle.bz_num.specs.Dense.{AreNarrow, DividesRow}
 use Rattle.bz_model.specs.declared.Master.{Master}
 use Rattle.bz_model.specs.declared.Model.{Model}
 use Rattle.bz_model.specs.Decomposed.{IsDecomposed}
@@ -24,12 +23,12 @@ use Rattle.bz_tree.specs.declared.Leaf.{Leaf}
 use Rattle.bz_tree.specs.Boxes.{Box}
 use Rattle.bz_tree.specs.Integers.{positions_of}
 use Rattle.bz_judge.proofs.BetweenTests.{positions_within}
-use Rattle.bz_std.specs.LowestForms.{IsLowestOf, MeetsNode}
-use Rattle.bz_std.specs.Meanings.{IsPossible, MeetsWithin}
-use Rattle.bz_std.specs.Tasks.{IsCutOfSplit, IsMasterOf, node, node_cost, ones}
+use Rattle.bz_std.specs.LowestForms.{IsLowestOf}
+use Rattle.bz_std.specs.Meanings.{MeetsWithin}
+use Rattle.bz_std.specs.Tasks.{IsCutOfSplit, node, node_cost, ones}
 use Rattle.bz_std.proofs.ListFacts.{coordinate_back, coordinate_front}
 use Rattle.bz_std.proofs.LowestForms.{node_met, whole_kept}
-use Rattle.bz_event.specs.Nodes.{HasLeafOfValue, IsLeafOfValue, IsLowestMaster, IsPointOfNode, value_of}
+use Rattle.bz_event.specs.Nodes.{HasLeafOfValue, IsPointOfNode, value_of}
 use Rattle.bz_node.specs.PointSteps.{FindsWideSum, IsPointOf}
 
 -- ---- lowest forms

@@ -1,5 +1,5 @@
 -- Of the tests of a point at which the master's inequalities hold, only those fail that a number isn't wide.
-use Rattle.std.specs.Prelude.{ℕ, ◌≡◌, List, Option, Some, None, Result, Ok, Err}
+use Rattle.std.specs.Prelude.{ℕ, ◌≡◌, List, None, Result}
 use Rattle.std.specs.List.{AllByRecursion, enumerate_from}
 use Rattle.std.proofs.Common.{refl, inl, inr, subst}
 use Rattle.std.specs.Result.{IsErrAnd}

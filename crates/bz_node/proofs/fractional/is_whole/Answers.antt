@@ -1,4 +1,4 @@
-use Rattle.std.proofs.Common.{rules, ◌≡◌, ◌↔◌, IsTrue, ◌+ℤ◌, ◌*ℤ◌, ◌<ℤ◌, ◌≤ℤ◌, ℤ, pos, FitsSigned, to_z-of_z}
+use Rattle.std.proofs.Common.{rules, ◌≡◌, ◌↔◌, IsTrue, ◌+ℤ◌, ◌*ℤ◌, ◌<ℤ◌, ℤ, pos, FitsSigned, to_z-of_z}
 use Rattle.std.specs.Int.{w128}
 use Rattle.bz_node.proofs.Fractions.{no_rest, rest_of_whole}
 use Rattle.bz_node.proofs.fractional.is_whole.Goals as goal

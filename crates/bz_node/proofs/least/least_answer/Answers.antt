@@ -1,14 +1,13 @@
-use Rattle.std.proofs.Common.{rules, refl, ◌≡◌, ◌∙◌, sym, ap, subst, ◌+◌, ◌<◌, ℕ, ℤ, List, length, arith, FitsSigned, to_z-of_z}
+use Rattle.std.proofs.Common.{rules, refl, ◌≡◌, ◌∙◌, ap, subst, ℤ, List, length, FitsSigned, to_z-of_z}
 use Rattle.std.specs.Int.{w128}
 use Rattle.std.specs.List.{AllByRecursion}
 use Rattle.bz_num.specs.Dense.{entry}
-use Rattle.bz_model.specs.Parting.{width_of}
 use Rattle.bz_model.specs.Points.{IsWhole}
 use Rattle.bz_lex.proofs.Results.{if_err_then}
 use Rattle.bz_std.specs.Meanings.{differences}
 use Rattle.bz_std.specs.NumberLists.{HasNumbers}
 use Rattle.bz_event.specs.Nodes.{IsFirstFractional, IsRoundedDown}
-use Rattle.bz_node.specs.NodePrograms.{cuts_of, mode_of, model_of, part_of, region_of, variables_of}
+use Rattle.bz_node.specs.NodePrograms.{mode_of, variables_of}
 use Rattle.bz_node.proofs.Fractions.{first_inside, same_fractional, same_whole}
 use Rattle.bz_node.proofs.LeastSteps.{cost_leaf_is, least_at, least_numbers, leaf_stops, point_stops, positions_inside, possible}
 use Rattle.bz_node.proofs.least.least_answer.Goals as goal

@@ -1,6 +1,6 @@
-use Rattle.std.proofs.Common.{rules, ◌≡◌, ◌∙◌, subst, ◌+◌, ◌++◌, List, ℤ, pos, ◌<ℤ◌, FitsSigned, to_z, of_z, to_z-of_z}
+use Rattle.std.proofs.Common.{rules, ◌≡◌, ◌∙◌, ◌+◌, ◌++◌, pos, ◌<ℤ◌, FitsSigned, to_z, of_z, to_z-of_z}
 use Rattle.std.specs.Int.{w128}
-use Rattle.bz_num.specs.Dense.{AreNarrow, entry}
+use Rattle.bz_num.specs.Dense.{entry}
 use Rattle.bz_model.specs.Parting.{blocks_of, width_of}
 use Rattle.bz_std.specs.LowestForms.{IsLowestOf}
 use Rattle.bz_node.proofs.PointSteps.{narrow_back, narrow_front, parts_are}
