@@ -24,6 +24,7 @@ use Rattle.bz_tableau.specs.Answers.{IsLeast}
 use Rattle.bz_tableau.specs.Programs.{program_of}
 use Rattle.bz_tableau.specs.declared.answers.Vals.{Vals}
 use Rattle.bz_tableau.specs.declared.programs.Lp.{Lp}
+use Rattle.bz_std.specs.Floored.{AreFloored}
 use Rattle.bz_std.specs.LowestForms.{MeetsNode}
 use Rattle.bz_std.specs.Meanings.{IsPossible, differences}
 use Rattle.bz_std.specs.Posed.{IsProgramOf}
@@ -124,6 +125,12 @@ IsNodeAnswer m part box cuts way lp (answer.Point point leaf) = IsPointOfNode m 
 -- in mode Point there is a block
 abbrev pub HasBlockInPoint : List ℕ → Mode → Type 0
 HasBlockInPoint part way = way ≡ mode.Point → 0 < blocks_of part
+
+-- The cuts hold each eta of a node's program from below in mode Cost; in mode Point, where no answer has a leaf, there is
+-- a block.
+abbrev pub IsReady : List ℕ → List Cut → Mode → Type 0
+IsReady part cuts mode.Cost = AreFloored (blocks_of part) cuts
+IsReady part cuts mode.Point = 0 < blocks_of part
 
 -- the node of this box and these cuts, as a task with these numbers, is solved by what is carried
 pub record SolvesNode (m : Model) (part : List ℕ) (number front : ℕ) (box : Box) (cuts : List Cut) (way : Mode)

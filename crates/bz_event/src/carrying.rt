@@ -4,6 +4,7 @@ ghost use Rattle.bz_event.specs.Carried.{carried};
 
 use bz_model::Master;
 use bz_tableau::{Lp, LpStop};
+use std::alloc::AllocError;
 
 use crate::answers::{Solved, TaskStop};
 use crate::tasks::TaskName;
@@ -42,6 +43,17 @@ impl From<bz_num::OutOfMemory> for TaskStop {
     ghost from_gives = { λ _ e. e ≡ stop.OutOfMemory };
 
     fn from(_error: bz_num::OutOfMemory) -> TaskStop {
+        TaskStop::OutOfMemory
+    }
+}
+
+impl From<AllocError> for TaskStop {
+    ghost use Rattle.std.specs.Prelude.{◌≡◌};
+    ghost use Rattle.bz_event.specs.declared.answers.TaskStop.TheVariants as stop;
+
+    ghost from_gives = { λ _ e. e ≡ stop.OutOfMemory };
+
+    fn from(_error: AllocError) -> TaskStop {
         TaskStop::OutOfMemory
     }
 }

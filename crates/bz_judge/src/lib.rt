@@ -25,4 +25,4 @@ pub use laws::tests_tell;
 pub use leaf_check::judge_leaf;
 pub use points::{judge_block, judge_blocks, judge_master_rows, judge_point};
 pub use ray::{judge_ray, judge_ray_rows};
-pub use value::judge_value;
+pub use value::{judge_value, value_sum};

@@ -14,8 +14,8 @@ use bz_first::judge_equal;
 use bz_model::{Master, Model, Split, numerator};
 use bz_num::WideSum;
 
-/// The master's inner cost with the etas, or its first wide place.
-fn value_sum(split: &Split, master: &Master) -> Result<i128, WideSum>
+/// The master's inner cost with the etas, or its first wide place. It takes no memory.
+pub fn value_sum(split: &Split, master: &Master) -> Result<i128, WideSum>
     requires x { length master.now.x ≡ width_of split.now.part 0 }
     requires eta { length master.now.eta ≡ blocks_of split.now.part }
     ensures { result ≡ fold_of (value_pairs (terms_in split.now.part 0 (inner_cost split.now.model)) master.now) }

@@ -1,0 +1,5 @@
+mod Fractions
+mod LeafSteps
+mod LeastSteps
+mod PointSteps
+mod SumTests

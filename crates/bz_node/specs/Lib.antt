@@ -1,0 +1,4 @@
+pub mod Fractional
+pub mod LeafStops
+pub mod NodePrograms
+pub mod PointSteps
