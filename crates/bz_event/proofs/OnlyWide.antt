@@ -1,5 +1,5 @@
 -- Tests of which all hold but those that a number isn't wide.
-use Rattle.std.specs.Prelude.{ℕ, ◌≡◌, ◌⊎◌, List, [], ◌∷◌, ◌++◌}
+use Rattle.std.specs.Prelude.{ℕ, ◌+◌, ◌≡◌, ◌⊎◌, List, [], ◌∷◌, ◌++◌}
 use Rattle.std.specs.List.{enumerate_from, AllByRecursion}
 use Rattle.std.proofs.Common.{inl, inr, subst}
 use Rattle.bz_first.specs.Tests.{AllHold, IsFirstFault, Test, each_of}
@@ -28,7 +28,7 @@ others_joined (x ∷ xs) ys h g = (h.0, others_joined xs ys h.1 g)
 -- the tests of each item with its number
 pub others_numbered : {X : Type 0} (tests : ℕ × X → Tests) (P : X → Type 0) (n : ℕ) (xs : List X) → ((e : ℕ × X) → P e.1 → OthersHold (tests e)) → AllByRecursion P xs → OthersHold (each_of tests (enumerate_from n xs))
 others_numbered tests P n [] f h = tt
-others_numbered tests P n (x ∷ xs) f h = others_joined (tests (n, x)) (each_of tests (enumerate_from _ xs)) (f (n, x) h.0) (others_numbered tests P _ xs f h.1)
+others_numbered tests P n (x ∷ xs) f h = others_joined (tests (n, x)) (each_of tests (enumerate_from (n + 1) xs)) (f (n, x) h.0) (others_numbered tests P (n + 1) xs f h.1)
 
 -- ---- what fails of two lists
 pub fails_where : {F : Type 0} (xs ys : List (Test F)) (f : F) → Fails (xs ++ ys) f → Fails xs f ⊎ Fails ys f

@@ -1,0 +1,4 @@
+//! The core of a search: its state, which is the replay of its history, and what may be appended to that history.
+#![tactic(auto)]
+
+mod state;
