@@ -1,2 +1,3 @@
+pub mod Histories
 pub mod States
 pub mod Steps

@@ -1,5 +1,5 @@
 -- Which events may follow a state.
-use Rattle.std.specs.Prelude.{ℕ, suc, ◌+◌, ◌-◌, ◌≡◌, ◌<◌, ◌≤◌, ◌⊎◌, ◌==◌, if◌then◌else◌, true, false, ℤ, pos, ◌*ℤ◌, ◌≤ℤ◌, ◌<ℤ◌, List, [], ◌∷◌, length, take, Option, Some, None, IsSome, is_some}
+use Rattle.std.specs.Prelude.{ℕ, suc, ◌+◌, ◌-◌, ◌≡◌, ◌<◌, ◌≤◌, ◌⊎◌, ◌==◌, cond, true, false, ℤ, pos, ◌*ℤ◌, ◌≤ℤ◌, ◌<ℤ◌, List, [], ◌∷◌, length, take, Option, Some, None, IsSome, is_some}
 use Rattle.std.specs.List.{AllByRecursion, enumerate_from, slice_get}
 use Rattle.bz_algebra.specs.Sums.{dot}
 use Rattle.bz_num.specs.Dense.{entry}
@@ -282,7 +282,7 @@ pub record IsStep (d : Decomposition) (budget : ℕ) (counts : ℕ → ℕ) (t :
 
 -- the numbers of each worker's entries with one more entry
 abbrev pub counted : (ℕ → ℕ) → Entry → ℕ → ℕ
-counted counts e worker = counts worker + (if e.stamp.worker == worker then 1 else 0)
+counted counts e worker = counts worker + cond (e.stamp.worker == worker) 1 0
 
 -- each entry may follow the state after those before it
 abbrev pub IsLegalFrom : Decomposition → ℕ → (ℕ → ℕ) → State → List Entry → Type 0
