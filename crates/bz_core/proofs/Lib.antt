@@ -1,2 +1,4 @@
 pub mod Growing
+pub mod Lists
+pub mod PoolSteps
 pub mod Stamps

@@ -1,3 +1,4 @@
 pub mod Histories
+pub mod Pools
 pub mod States
 pub mod Steps

@@ -43,12 +43,12 @@ pub record State : Type 0 where
 
 -- ---- what the records say
 -- in mode Cost a point of least cost is looked for, and once a block's cost falls without bound any point
+abbrev pub mode_for : Option FallingRay → Mode
+mode_for None = mode.Cost
+mode_for (Some ray) = mode.Point
+
 abbrev pub mode_of : State → Mode
-mode_of s = by s.ray
-  where
-    by : Option FallingRay → Mode
-    by None = mode.Cost
-    by (Some ray) = mode.Point
+mode_of s = mode_for s.ray
 
 -- a node that needs further work
 abbrev pub is_open : Node → Bool
@@ -83,13 +83,13 @@ abbrev pub changed_at : {X : Type 0} → (X → X) → List X → Option ℕ →
 changed_at f xs None = xs
 changed_at f xs (Some i) = changed f xs i
 
--- the post is ended by the entry at this place; what has ended stays so
+-- a post is ended by the entry at this place; what has ended before stays so
+abbrev pub end_of : ℕ → Option ℕ → Option ℕ
+end_of at None = Some at
+end_of at (Some before) = Some before
+
 abbrev pub ended_by : ℕ → Post → Post
-ended_by at post = record post { ended = by post.ended }
-  where
-    by : Option ℕ → Option ℕ
-    by None = Some at
-    by (Some before) = Some before
+ended_by at post = record post { ended = end_of at post.ended }
 
 -- the node's live post was ended by the cut of this number
 abbrev pub freed_by : ℕ → Node → Node

@@ -42,7 +42,7 @@ use Rattle.bz_event.specs.Floors.{IsFloorCut, IsFloorRay}
 use Rattle.bz_event.specs.Nodes.{FitsValue, HasLeafOfValue, IsFirstFractional, IsRoundedDown, value_of}
 use Rattle.bz_event.specs.Separations.{CompletesCost}
 use Rattle.bz_event.specs.Stops.{StopsFloor, StopsNode, StopsSeparation}
-use Rattle.bz_core.specs.declared.state.Filled.{Filled}
+use Rattle.bz_pool.specs.Pools.{IsNew}
 use Rattle.bz_core.specs.declared.state.Node.{Node}
 use Rattle.bz_core.specs.declared.state.Post.{Post}
 use Rattle.bz_core.specs.States.{State, box_of, effect, is_done, is_live, is_open, least_front, mode_of}
@@ -134,16 +134,12 @@ pub record IsCutOfPost (d : Decomposition) (way : Mode) (point : Master) (basis 
   pub fits : FitsCut d.model d.part cut
   pub cuts_off : CutsOff cut point
 
--- no cut of the pool is the same
-abbrev pub IsNewCut : List Cut → Cut → Type 0
-IsNewCut cuts cut = AllByRecursion (λ known. ¬ AreSame known cut) cuts
-
 pub record IsAppendStep (d : Decomposition) (budget : ℕ) (t : State) (number : ℕ) (basis : List ℕ) (cut : Cut)
     : Type 0 where
   pub post : Post
   pub is_post : IsAt t.posts number post
   pub of_post : IsCutOfPost d (mode_of t) post.point basis cut
-  pub new : IsNewCut t.cuts cut
+  pub new : IsNew t.cuts cut
   pub units : t.units < budget
 
 pub record IsAgainStep (d : Decomposition) (t : State) (number : ℕ) (basis : List ℕ) (place : ℕ) : Type 0 where
