@@ -1,4 +1,5 @@
 pub mod Growing
 pub mod Lists
 pub mod PoolSteps
+pub mod PostSteps
 pub mod Stamps

@@ -31,6 +31,10 @@ at_more (y ∷ ys) x (suc k) e h = later (at_more ys x k e h)
     later (inl g) = inl g
     later (inr g) = inr (g.0, ap suc g.1)
 
+-- one item stands at a place
+pub at_one : {X : Type 0} (xs : List X) (k : ℕ) (a b : X) → slice_get xs k ≡ Some a → slice_get xs k ≡ Some b → a ≡ b
+at_one xs k a b h g = cc
+
 -- what stands at a place stays there with one more
 pub at_kept : {X : Type 0} (xs ys : List X) (k : ℕ) (e : X) → slice_get xs k ≡ Some e → slice_get (xs ++ ys) k ≡ Some e
 at_kept [] ys k e h = absurd (cc)
@@ -40,3 +44,36 @@ at_kept (x ∷ xs) ys (suc k) e h = at_kept xs ys k e h
 pub at_end : {X : Type 0} (xs : List X) (x : X) → slice_get (xs ++ x ∷ []) (length xs) ≡ Some x
 at_end [] x = refl
 at_end (y ∷ ys) x = at_end ys x
+
+-- ---- one item changed
+-- an item of the changed list is the one at its place before, or what is made of it where it is the place
+pub at_changed : {X : Type 0} (f : X → X) (xs : List X) (i k : ℕ) (y : X) → slice_get (changed f xs i) k ≡ Some y
+    → (x : X) × (slice_get xs k ≡ Some x) × ((y ≡ x) ⊎ ((k ≡ i) × (y ≡ f x)))
+at_changed f [] i k y h = absurd (cc)
+at_changed f (x ∷ xs) zero zero y h =
+    let same : f x ≡ y = cc in
+    (x, refl, inr (refl, sym same))
+at_changed f (x ∷ xs) zero (suc k) y h = (y, h, inl refl)
+at_changed f (x ∷ xs) (suc i) zero y h =
+    let same : x ≡ y = cc in
+    (x, refl, inl (sym same))
+at_changed f (x ∷ xs) (suc i) (suc k) y h = later (at_changed f xs i k y h)
+  where
+    later : ((z : _) × (slice_get xs k ≡ Some z) × ((y ≡ z) ⊎ ((k ≡ i) × (y ≡ f z)))) → (z : _) × (slice_get xs k ≡ Some z) × ((y ≡ z) ⊎ ((suc k ≡ suc i) × (y ≡ f z)))
+    later (z, at, inl e) = (z, at, inl e)
+    later (z, at, inr e) = (z, at, inr (ap suc e.0, e.1))
+
+-- what stands at a place stands there still, or what is made of it where it is the place
+pub changed_item : {X : Type 0} (f : X → X) (xs : List X) (i k : ℕ) (x : X) → slice_get xs k ≡ Some x
+    → (y : X) × (slice_get (changed f xs i) k ≡ Some y) × ((y ≡ x) ⊎ ((k ≡ i) × (y ≡ f x)))
+changed_item f [] i k x h = absurd (cc)
+changed_item f (x' ∷ xs) zero zero x h =
+    let same : x' ≡ x = cc in
+    (f x', refl, inr (refl, ap f same))
+changed_item f (x' ∷ xs) zero (suc k) x h = (x, h, inl refl)
+changed_item f (x' ∷ xs) (suc i) zero x h = (x, h, inl refl)
+changed_item f (x' ∷ xs) (suc i) (suc k) x h = later (changed_item f xs i k x h)
+  where
+    later : ((z : _) × (slice_get (changed f xs i) k ≡ Some z) × ((z ≡ x) ⊎ ((k ≡ i) × (z ≡ f x)))) → (z : _) × (slice_get (changed f xs i) k ≡ Some z) × ((z ≡ x) ⊎ ((suc k ≡ suc i) × (z ≡ f x)))
+    later (z, at, inl e) = (z, at, inl e)
+    later (z, at, inr e) = (z, at, inr (ap suc e.0, e.1))

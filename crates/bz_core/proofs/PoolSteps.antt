@@ -102,13 +102,13 @@ left_alone d cs t u cuts floors ray posts h = record {
     by (inl (inr r)) = inl (inr (subst (λ (o : Option FallingRay). IsSome o) (sym ray) r))
     by (inr e) = inr (record { floors_alone = ap length cuts ∙ e.floors_alone ∙ sym (ap length floors); no_posts = posts ∙ e.no_posts })
 
-length-changed_at : {X : Type 0} (f : X → X) (xs : List X) (i : Option ℕ) → length (changed_at f xs i) ≡ length xs
+pub length-changed_at : {X : Type 0} (f : X → X) (xs : List X) (i : Option ℕ) → length (changed_at f xs i) ≡ length xs
 length-changed_at f xs None = refl
 length-changed_at f xs (Some i) = length-changed f xs i
 
 -- ---- floors
 -- where a floor is next, there are floors alone
-early_of_next : (d : Decomposition) (cs : List Cut) (t : State) (block : ℕ) → IsNextFloor d t block → IsPooled d cs t → IsEarly t
+pub early_of_next : (d : Decomposition) (cs : List Cut) (t : State) (block : ℕ) → IsNextFloor d t block → IsPooled d cs t → IsEarly t
 early_of_next d cs t block next h = by h.ready
   where
     by : AreFloorsReady d t ⊎ IsEarly t → IsEarly t
@@ -252,7 +252,7 @@ begins d root = record {
 cuts_more : (es : List Entry) (x : Entry) → cuts_in es ++ cuts_of x.event ≡ cuts_in (es ++ x ∷ [])
 cuts_more es x = ap (λ (cs : List Cut). cuts_in es ++ cs) (sym (append-nil (cuts_of x.event))) ∙ sym (flat_map-append (λ (e : Entry). cuts_of e.event) es (x ∷ []))
 
-pooled : (d : Decomposition) (budget : ℕ) (root : Region) (es : List Entry) (t : State) → IsReplay d budget root es t → IsPooled d (cuts_in es) t
+pub pooled : (d : Decomposition) (budget : ℕ) (root : Region) (es : List Entry) (t : State) → IsReplay d budget root es t → IsPooled d (cuts_in es) t
 pooled d budget root es t r = histories_grow d budget root (λ es t. IsPooled d (cuts_in es) t) (begins d root)
     (λ before u x replayed step old. subst (λ (cs : List Cut). IsPooled d cs (effect d u x.event)) (cuts_more before x) (pool_step d budget (cuts_in before) u x.event step.may old)) es t r
 

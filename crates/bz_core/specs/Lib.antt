@@ -1,4 +1,5 @@
 pub mod Histories
 pub mod Pools
+pub mod Posts
 pub mod States
 pub mod Steps

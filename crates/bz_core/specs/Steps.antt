@@ -152,6 +152,14 @@ pub record IsAgainStep (d : Decomposition) (t : State) (number : ℕ) (basis : L
   pub same : AreSame known cut
   pub after : post.front ≤ place
 
+-- The part completes the point in the block: the block's inequalities hold, in mode Cost at a cost of at most the block's
+-- eta. No sum or product is wide that tells so.
+pub record IsCompletion (d : Decomposition) (way : Mode) (point : Master) (block : ℕ) (y : BlockPart) : Type 0 where
+  pub shape : HasBlockShape d.part (block, y)
+  pub rows : AllByRecursion (HoldsInBlock point y) (inequalities_of d.model d.part block)
+  pub fits : FitsBlock d.model d.part point block y
+  pub cost : CompletesCost d.model d.part block point way y
+
 pub record IsFillStep (d : Decomposition) (t : State) (number block : ℕ) (y : BlockPart) : Type 0 where
   pub post : Post
   pub is_post : IsAt t.posts number post
@@ -159,10 +167,7 @@ pub record IsFillStep (d : Decomposition) (t : State) (number block : ℕ) (y : 
   pub first : 0 < block
   pub last : block ≤ blocks_of d.part
   pub empty : slice_get post.fills (block - 1) ≡ Some None
-  pub shape : HasBlockShape d.part (block, y)
-  pub rows : AllByRecursion (HoldsInBlock post.point y) (inequalities_of d.model d.part block)
-  pub fits : FitsBlock d.model d.part post.point block y
-  pub cost : CompletesCost d.model d.part block post.point (mode_of t) y
+  pub completes : IsCompletion d (mode_of t) post.point block y
 
 -- each block is completed
 abbrev pub IsFilled : Post → Type 0
