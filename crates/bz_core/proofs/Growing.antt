@@ -54,6 +54,7 @@ end_counts d budget root es t e r s =
 -- the history with one more entry that may follow
 pub step_more : (d : Decomposition) (budget : ℕ) (root : Region) (es : List Entry) (t : State) (e : Entry) → IsReplay d budget root es t → IsStep d budget (λ worker. count_of worker es) t e → IsReplay d budget root (es ++ e ∷ []) (effect d t e.event)
 step_more d budget root es t e r s = record {
+  root_is = r.root_is;
   legal = legal_more d budget no_entries (opening root) es e r.legal (end_counts d budget root es t e r s);
   state = replay_more d (opening root) es e ∙ ap (λ u. effect d u e.event) r.state;
 }
@@ -88,4 +89,4 @@ grow d budget root Holds counts before t (e ∷ es) keeps p h =
 pub histories_grow : (d : Decomposition) (budget : ℕ) (root : Region) (Holds : List Entry → State → Type 0) → Holds [] (opening root) → Keeps d budget root Holds → (es : List Entry) (t : State) → IsReplay d budget root es t → Holds es t
 histories_grow d budget root Holds begins keeps es t r =
     subst (Holds es) r.state (grow d budget root Holds no_entries [] (opening root) es keeps
-        (record { replayed = record { legal = tt; state = refl }; counts_are = λ worker. refl; holds = begins }) r.legal)
+        (record { replayed = record { root_is = r.root_is; legal = tt; state = refl }; counts_are = λ worker. refl; holds = begins }) r.legal)

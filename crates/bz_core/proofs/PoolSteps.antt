@@ -199,8 +199,8 @@ post_pooled d cs t u r cuts floors ray h = record {
 append_pooled : (d : Decomposition) (budget : ℕ) (cs : List Cut) (t : State) (post : ℕ) (basis : List ℕ) (cut : Cut) → IsAppendStep d budget t post basis cut → IsPooled d cs t → IsPooled d (cs ++ cut ∷ []) (effect d t (event.Append post basis cut))
 append_pooled d budget cs t post basis cut may h = record {
   cuts_are = ap (λ (xs : List Cut). xs ++ cut ∷ []) h.cuts_are;
-  valid = all_append (IsValid d.model d.part) t.cuts (cut ∷ []) h.valid (may.of_post.valid, tt);
-  fit = all_append (FitsCut d.model d.part) t.cuts (cut ∷ []) h.fit (may.of_post.fits, tt);
+  valid = all_append (IsValid d.model d.part) t.cuts (cut ∷ []) h.valid (may.of_point.valid, tt);
+  fit = all_append (FitsCut d.model d.part) t.cuts (cut ∷ []) h.fit (may.fits, tt);
   apart = apart_more t.cuts cut h.apart may.new;
   floors = λ k below. floor_kept t.cuts (cut ∷ []) k (h.floors k below);
   few = h.few;

@@ -65,8 +65,8 @@ is_done s = is_some s.stop || not (list_any is_open s.nodes) || (is_some s.ray &
 abbrev pub box_of : Region → Box
 box_of region = record { lower = region.lower; upper = region.upper }
 
--- how many cuts a node has to be solved over at least: those that were there when it was opened, that which ended its last
--- post, and in mode Cost a floor for each block
+-- how many cuts a node has to be solved over at least: those that were there when it was opened, that which ended the last of
+-- its posts that has ended, and in mode Cost a floor for each block
 abbrev pub least_front : Decomposition → Mode → Node → ℕ
 least_front d mode.Cost node = max (max node.opened node.after) (blocks_of d.part)
 least_front d mode.Point node = max node.opened node.after
@@ -127,7 +127,7 @@ abbrev pub live_of : Option Node → Option ℕ
 live_of None = None
 live_of (Some node) = node.live
 
--- the node with this number is freed where the post is live
+-- where the post is live, its node is freed by the cut of this number
 abbrev pub freed_where_live : Option Post → ℕ → List Node → List Node
 freed_where_live None number nodes = nodes
 freed_where_live (Some post) number nodes = cond (is_live post) (changed (freed_by number) nodes post.node) nodes

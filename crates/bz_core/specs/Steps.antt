@@ -15,7 +15,7 @@ use Rattle.bz_cut.specs.declared.Mode.{Mode}
 use Rattle.bz_cut.specs.declared.Mode.TheVariants as mode
 use Rattle.bz_cut.specs.Cuts.{IsValid}
 use Rattle.bz_cut.specs.Fits.{FitsCut}
-use Rattle.bz_cut.specs.Points.{AreSame, CutsOff}
+use Rattle.bz_cut.specs.Points.{CutsOff}
 use Rattle.bz_tree.specs.declared.Leaf.{Leaf}
 use Rattle.bz_tree.specs.Boxes.{Box}
 use Rattle.bz_tree.specs.Integers.{IntegerHolds, integer_at, positions_of}
@@ -42,7 +42,7 @@ use Rattle.bz_event.specs.Floors.{IsFloorCut, IsFloorRay}
 use Rattle.bz_event.specs.Nodes.{FitsValue, HasLeafOfValue, IsFirstFractional, IsRoundedDown, value_of}
 use Rattle.bz_event.specs.Separations.{CompletesCost}
 use Rattle.bz_event.specs.Stops.{StopsFloor, StopsNode, StopsSeparation}
-use Rattle.bz_pool.specs.Pools.{IsNew}
+use Rattle.bz_pool.specs.Pools.{IsNew, IsPlaceOf}
 use Rattle.bz_core.specs.declared.state.Node.{Node}
 use Rattle.bz_core.specs.declared.state.Post.{Post}
 use Rattle.bz_core.specs.States.{State, box_of, effect, is_done, is_live, is_open, least_front, mode_of}
@@ -52,15 +52,15 @@ use Rattle.bz_core.specs.States.{State, box_of, effect, is_done, is_live, is_ope
 abbrev pub IsAt : {X : Type 0} → List X → ℕ → X → Type 0
 IsAt xs i x = slice_get xs i ≡ Some x
 
--- value / den of a post
+-- value / den is less than other / other_den
 abbrev pub IsBelow : ℤ → ℤ → ℤ → ℤ → Type 0
-IsBelow value den other by = (value *ℤ by) <ℤ (other *ℤ den)
+IsBelow value den other other_den = (value *ℤ other_den) <ℤ (other *ℤ den)
 
 -- the post with this number is the best so far
 abbrev pub IsBest : State → Post → Type 0
 IsBest t post = (i : ℕ) × (t.best ≡ Some i) × IsAt t.posts i post
 
--- in mode Cost nothing that was found costs value / den or less
+-- in mode Cost the best so far, where there is one, costs more than value / den
 abbrev pub IsBetter : Decomposition → State → Mode → ℤ → ℤ → Type 0
 IsBetter d t mode.Cost value den =
     (best : Post) → IsBest t best → IsBelow value den (value_of d.model d.part best.point) best.point.den
@@ -72,7 +72,7 @@ pub record IsWaiting (t : State) (number : ℕ) (node : Node) : Type 0 where
   pub stands_open : is_open node ≡ true
   pub unposted : node.live ≡ None
 
--- the cuts from the node's least front up, as far as there are cuts
+-- the front is at least the node's least front, and at most the number of cuts
 pub record IsFrontOf (d : Decomposition) (t : State) (node : Node) (front : ℕ) : Type 0 where
   pub at_least : least_front d (mode_of t) node ≤ front
   pub at_most : front ≤ length t.cuts
@@ -100,7 +100,7 @@ abbrev pub IsKeptBy : Master → List Cut → Type 0
 IsKeptBy point cuts = AllByRecursion (λ cut. ¬ CutsOff cut point) cuts
 
 -- The point is whole and lies in the box, meets the master's inequalities and the cuts; in mode Cost the leaf holds over
--- them and its bound is the point's value. No sum or product is wide that tells so.
+-- them and its bound is the point's value. No sum of the master's inequalities, of the leaf or of the value is wide.
 pub record IsPostedPoint (d : Decomposition) (way : Mode) (box : Box) (cuts : List Cut) (point : Master)
     (leaf : Option Leaf) : Type 0 where
   pub shape : IsMasterOf d.part point
@@ -119,9 +119,9 @@ pub record IsPostStep (d : Decomposition) (t : State) (number front : ℕ) (poin
   pub posted : IsPostedPoint d (mode_of t) (box_of node.region) (take front t.cuts) point leaf
 
 -- ---- separations
--- the basis answers the relaxed separation of the block at the post's point, and the cut is the basis's own: valid, with no
--- sum or product wide that tells so, and it cuts the point off
-pub record IsCutOfPost (d : Decomposition) (way : Mode) (point : Master) (basis : List ℕ) (cut : Cut) : Type 0 where
+-- the basis answers the relaxed separation of the cut's block at the point, and the cut is the basis's own: it is valid and
+-- cuts the point off
+pub record IsCutOfPoint (d : Decomposition) (way : Mode) (point : Master) (basis : List ℕ) (cut : Cut) : Type 0 where
   pub lp : Lp
   pub program : IsSeparationLp d.model d.part point cut.block way lp
   pub z : Vals
@@ -131,25 +131,25 @@ pub record IsCutOfPost (d : Decomposition) (way : Mode) (point : Master) (basis 
   pub first : 0 < cut.block
   pub last : cut.block ≤ blocks_of d.part
   pub valid : IsValid d.model d.part cut
-  pub fits : FitsCut d.model d.part cut
   pub cuts_off : CutsOff cut point
 
+-- no sum or product is wide that tells that the cut is valid
 pub record IsAppendStep (d : Decomposition) (budget : ℕ) (t : State) (number : ℕ) (basis : List ℕ) (cut : Cut)
     : Type 0 where
   pub post : Post
   pub is_post : IsAt t.posts number post
-  pub of_post : IsCutOfPost d (mode_of t) post.point basis cut
+  pub of_point : IsCutOfPoint d (mode_of t) post.point basis cut
+  pub fits : FitsCut d.model d.part cut
   pub new : IsNew t.cuts cut
   pub units : t.units < budget
 
+-- a cut that says the same is there already, and came after those of the post's front
 pub record IsAgainStep (d : Decomposition) (t : State) (number : ℕ) (basis : List ℕ) (place : ℕ) : Type 0 where
   pub post : Post
   pub is_post : IsAt t.posts number post
   pub cut : Cut
-  pub of_post : IsCutOfPost d (mode_of t) post.point basis cut
-  pub known : Cut
-  pub is_known : IsAt t.cuts place known
-  pub same : AreSame known cut
+  pub of_point : IsCutOfPoint d (mode_of t) post.point basis cut
+  pub known : IsPlaceOf t.cuts cut place
   pub after : post.front ≤ place
 
 -- The part completes the point in the block: the block's inequalities hold, in mode Cost at a cost of at most the block's
@@ -185,18 +185,18 @@ pub record IsIncumbentStep (d : Decomposition) (t : State) (number : ℕ) : Type
 -- the first that isn't whole. In mode Cost the point costs less than the best so far.
 pub record IsSplitStep (d : Decomposition) (t : State) (number front : ℕ) (basis : List ℕ) (position : ℕ) (value : ℤ)
     : Type 0 where
-  pub node_is : Node
-  pub waits : IsWaiting t number node_is
-  pub front_is : IsFrontOf d t node_is front
+  pub waiting : Node
+  pub waits : IsWaiting t number waiting
+  pub front_is : IsFrontOf d t waiting front
   pub lp : Lp
-  pub program : IsProgramOf (node d.model d.part (box_of node_is.region) (take front t.cuts) (mode_of t)) lp
+  pub program : IsProgramOf (node d.model d.part (box_of waiting.region) (take front t.cuts) (mode_of t)) lp
   pub z : Vals
   pub y : Vals
   pub least : IsLeast false (program_of lp) basis z y
   pub first : IsFirstFractional (positions_of d.model d.part) (differences (entry z.num)) z.den position
   pub rounded : IsRoundedDown (differences (entry z.num) position) z.den value
-  pub at_least : coordinate node_is.region.lower (integer_at d.model d.part position) ≤ℤ value
-  pub below : value <ℤ coordinate node_is.region.upper (integer_at d.model d.part position)
+  pub at_least : coordinate waiting.region.lower (integer_at d.model d.part position) ≤ℤ value
+  pub below : value <ℤ coordinate waiting.region.upper (integer_at d.model d.part position)
   pub better : IsBetter d t (mode_of t) (dot (node_cost d.model d.part mode.Cost) (differences (entry z.num))) z.den
 
 -- the leaf is empty, or its bound is no less than the value of the best so far

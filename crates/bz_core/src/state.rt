@@ -18,7 +18,7 @@ pub struct Node {
     pub region: Region,
     /// How many cuts there were when it was opened.
     pub opened: u32,
-    /// One more than the number of the cut that ended its last post; 0 where none did.
+    /// One more than the number of the cut that ended the last of its posts that has ended; 0 where none has.
     pub after: u32,
     /// Its live post.
     pub live: Option<u32>,
