@@ -3,3 +3,4 @@ pub mod Pools
 pub mod Posts
 pub mod States
 pub mod Steps
+pub mod Trees
