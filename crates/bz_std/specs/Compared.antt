@@ -12,8 +12,10 @@ use Rattle.bz_cut.specs.declared.Cut.{Cut}
 use Rattle.bz_cut.specs.declared.Mode.{Mode}
 use Rattle.bz_cut.specs.declared.Mode.TheVariants as mode
 use Rattle.bz_tree.specs.Boxes.{Box}
+use Rattle.bz_tree.specs.Integers.{positions_of}
 use Rattle.bz_tree.specs.Leaves.{sides_of}
 use Rattle.bz_tableau.specs.declared.programs.LpRow.{LpRow}
+use Rattle.bz_std.specs.NodeLines.{ends_lines}
 use Rattle.bz_std.specs.Posed.{AreRowsOf, IsRowOf, Line, over_columns}
 use Rattle.bz_std.specs.Tasks.{node_cost, own_line, right_pairs, separation, side_line}
 
@@ -69,6 +71,10 @@ Pairwise R (x ∷ xs) (y ∷ ys) = R x y × Pairwise R xs ys
 -- the rows are those of the lines, each of its own
 abbrev pub AreRowsOfEach : List Line → List LpRow → Type 0
 AreRowsOfEach lines rows = Pairwise IsRowOf lines rows
+
+-- the rows are those of the ends of the integer columns, in file order
+abbrev pub AreEndRows : Model → List ℕ → List ℤ → List ℤ → List LpRow → Type 0
+AreEndRows m part lower upper rows = AreRowsOfEach (ends_lines (width_of part 0) (positions_of m part) lower upper) rows
 
 -- the rows are those of a separation, whose right sides are added up without a wide number
 pub record AreSeparationRows (m : Model) (part : List ℕ) (point : Master) (b : ℕ) (way : Mode) (rows : List LpRow)

@@ -10,7 +10,8 @@ use Rattle.bz_tree.specs.Boxes.{Box}
 use Rattle.bz_tree.specs.Integers.{positions_of}
 use Rattle.bz_tree.specs.Leaves.{side_of_cut, side_of_master}
 use Rattle.bz_tree.specs.LeafSides.{sides_at}
-use Rattle.bz_std.specs.Posed.{Line}
+use Rattle.bz_tableau.specs.declared.programs.LpRow.{LpRow}
+use Rattle.bz_std.specs.Posed.{AreAdded, Line}
 use Rattle.bz_std.specs.Tasks.{side_line}
 
 -- those of the master's inequalities, over n positions
@@ -36,9 +37,9 @@ ends_lines n positions lower upper = box_lines n positions (record { lower = low
 abbrev pub cut_lines : ℕ → List Cut → List Line
 cut_lines n cuts = map (side_line n) (map side_of_cut cuts)
 
--- those of the ends of the integer columns, in file order
-abbrev pub lines_of_ends : Model → List ℕ → List ℤ → List ℤ → List Line
-lines_of_ends m part lower upper = ends_lines (width_of part 0) (positions_of m part) lower upper
+-- the new rows are the old ones, followed by those of the box with these ends
+abbrev pub AreEndsAdded : List LpRow → List LpRow → ℕ → List ℕ → List ℤ → List ℤ → Type 0
+AreEndsAdded old new n positions lower upper = AreAdded old new (ends_lines n positions lower upper)
 
 -- those of the master's inequalities, and then those of the box
 abbrev pub side_lines : Model → List ℕ → Box → List Line

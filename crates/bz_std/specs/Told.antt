@@ -29,8 +29,8 @@ pub record IsOfBoth (m : Model) (part : List ℕ) (box other : Box) (cuts others
   pub program : IsProgramOf (node m part box cuts way) lp
   pub program_of_other : IsProgramOf (node m part other others kind) lp
 
--- The program of a node tells its variables, its rows and its cost; which leaves hold and fit over it; which points meet
--- it; and its mode, where there is a block.
+-- The program of a node tells its variables, its rows and its cost; which leaves hold and fit over it; which points
+-- meet it; and its mode, where there is a block.
 pub record NodesAreTold : Type 0 where
   pub posed : (m : Model) (part : List ℕ) (box other : Box) (cuts others : List Cut) (way kind : Mode) (lp : Lp) →
       IsOfBoth m part box other cuts others way kind lp → node m part box cuts way ≡ node m part other others kind

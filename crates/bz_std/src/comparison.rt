@@ -1,5 +1,5 @@
-//! Programs that are given compared with those of a split: whether a program is that of a separation, of a floor or of a
-//! node. It takes no memory.
+//! Programs that are given compared with those of a split: whether a program is that of a separation, of a floor or of
+//! a node. It takes no memory.
 ghost use Rattle.std.specs.Prelude.{◌↔◌, ◌≡◌, ◌<◌, ◌≤◌, ◌*◌, IsTrue, length};
 ghost use Rattle.std.specs.List.{AllByRecursion};
 ghost use Rattle.bz_algebra.specs.Numbers.{IsNarrow};
@@ -9,10 +9,10 @@ ghost use Rattle.bz_model.specs.Parting.{blocks_of, inequalities_of, width_of};
 ghost use Rattle.bz_tree.specs.Ends.{box_of};
 ghost use Rattle.bz_tree.specs.Integers.{positions_of};
 ghost use Rattle.bz_tree.specs.Leaves.{side_of_cut, side_of_master};
-ghost use Rattle.bz_std.specs.Compared.{AreNodeRows, AreRowsOfEach, AreSeparationRows, IsOwnRow, Pairwise};
-ghost use Rattle.bz_std.specs.NodeLines.{lines_of_ends, side_lines};
+ghost use Rattle.bz_std.specs.Compared.{AreEndRows, AreNodeRows, AreRowsOfEach, AreSeparationRows, IsOwnRow, Pairwise};
+ghost use Rattle.bz_std.specs.NodeLines.{side_lines};
 ghost use Rattle.bz_std.specs.Posed.{AreRowsOf, IsProgramOf, IsRowOf};
-ghost use Rattle.bz_std.specs.Tasks.{IsBoxOf, IsCutOfSplit, IsMasterOf, IsSeparationLp, cost_line, cost_lines, falling_line, floor, node, side_line};
+ghost use Rattle.bz_std.specs.Tasks.{IsBoxOf, IsCutOfSplit, IsMasterOf, IsNodeLp, IsSeparationLp, cost_line, cost_lines, falling_line, floor, side_line};
 
 use crate::cost_comparison::{is_cost, is_node_cost};
 use crate::row_comparison::{
@@ -165,7 +165,7 @@ fn are_box_rows(rows: &[LpRow], split: &Split, lower: &[i128], upper: &[i128]) -
     requires lowers { length lower.now ≡ length (positions_of split.now.model split.now.part) }
     requires uppers { length upper.now ≡ length (positions_of split.now.model split.now.part) }
     requires lower { AllByRecursion IsNarrow lower.now }
-    ensures { IsTrue result ↔ AreRowsOfEach (lines_of_ends split.now.model split.now.part lower.now upper.now) rows.now }
+    ensures { IsTrue result ↔ AreEndRows split.now.model split.now.part lower.now upper.now rows.now }
 {
     if rows.len() != 2 * lower.len() {
         return false;
@@ -234,7 +234,7 @@ fn are_node_rows(rows: &[LpRow], split: &Split, region: &NodeBox, cuts: &[Cut]) 
 pub fn is_node_lp(split: &Split, region: &NodeBox, cuts: &[Cut], mode: Mode, lp: &Lp) -> bool
     requires region { IsBoxOf split.now.model (box_of region.now) }
     requires cuts { AllByRecursion (IsCutOfSplit split.now.part) cuts.now }
-    ensures { IsTrue result ↔ IsProgramOf (node split.now.model split.now.part (box_of region.now) cuts.now mode) lp.now }
+    ensures { IsTrue result ↔ IsNodeLp split.now.model split.now.part (box_of region.now) cuts.now mode lp.now }
 {
     has_columns(lp, split.width(0) + split.blocks())
         && is_node_cost(&lp.cost, split, mode)

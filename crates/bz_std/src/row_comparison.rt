@@ -141,8 +141,8 @@ pub(crate) fn are_ends(
         && is_single_row(at_least, position, -1, narrow_negation(lower))
 }
 
-/// Whether the terms are those of a cut over columns: its numbers by the master's positions, of which there are `width`,
-/// and then that of its eta.
+/// Whether the terms are those of a cut over columns: its numbers by the master's positions, of which there are
+/// `width`, and then that of its eta.
 fn are_cut_terms(terms: &SparseRow, cut: &Cut, width: u32) -> bool
     requires few { width < list_limit }
     requires first { 0 < cut.now.block }
