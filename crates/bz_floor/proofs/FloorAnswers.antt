@@ -5,7 +5,7 @@ use Rattle.std.proofs.Common.{refl, sym, subst, ◌∙◌, arith}
 use Rattle.std.proofs.lemmas.Int.{ints}
 use Rattle.std.proofs.lemmas.List.{length-map}
 use Rattle.bz_first.specs.Tests.{AllHold, IsFirstFault}
-use Rattle.bz_num.specs.Dense.{entry}
+use Rattle.bz_num.specs.Dense.{AreNarrow, entry}
 use Rattle.bz_model.specs.declared.Model.{Model}
 use Rattle.bz_model.specs.Decomposed.{IsDecomposed}
 use Rattle.bz_model.specs.Parting.{blocks_of, inequalities_of, width_of}
@@ -113,9 +113,10 @@ module _ (m : Model) (part : List ℕ) (s : IsDecomposed m part) (b : ℕ) (firs
   divided_falls : IsFallAlong (floor m part b) (entry d)
   divided_falls = falls_divided m part s b f d p falls
 
-  pub is_floor_ray : AllHold (ray_tests m (placed part b d)) → IsFloorRay m part b d
-  is_floor_ray h = record {
+  pub is_floor_ray : AreNarrow d → AllHold (ray_tests m (placed part b d)) → IsFloorRay m part b d
+  is_floor_ray narrow h = record {
     numbers = p.count;
+    narrow = narrow;
     primitive = p.primitive;
     falls = divided_falls;
     fits = record { rows = ray_rows_fit m (placed part b d) h; cost = ray_cost_fits m (placed part b d) h };

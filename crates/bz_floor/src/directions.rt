@@ -20,7 +20,8 @@ use std::alloc::Global;
 fn primitive(numbers: Vec<i128>) -> Items<i128>
     requires narrow { AreNarrow numbers.items }
     requires some { HasSome numbers.items }
-    ensures { IsPrimitiveOf (length numbers.items) (entry numbers.items) result }
+    ensures primitive { IsPrimitiveOf (length numbers.items) (entry numbers.items) result }
+    ensures narrow { AreNarrow result }
 {
     let divisor = common_divisor(numbers.as_slice());
     // The numbers over their own divisor: what is left of the divisor is 1.
@@ -38,7 +39,8 @@ fn direction(
     requires inside { 2 * width_of split.now.part block ≤ length d.now }
     requires nonnegative { (j : ℕ) → j < length d.now → pos 0 ≤ℤ entry d.now j }
     requires moves { IsMoving (width_of split.now.part block) (differences_of (entry d.now)) }
-    ensures { IfOk result (IsPrimitiveOf (width_of split.now.part block) (differences_of (entry d.now))) }
+    ensures primitive { IfOk result (IsPrimitiveOf (width_of split.now.part block) (differences_of (entry d.now))) }
+    ensures narrow { IfOk result AreNarrow }
 {
     let numbers = differences(alloc, d, split.width(block))?;
     Ok(primitive(numbers.into_vec()))

@@ -78,10 +78,10 @@ module _ (m : Model) (part : List ℕ) (d : IsDecomposed m part) (b : ℕ) (poin
 
     pub cut_answers : (made : Result Cut MakeStop) → IfOk made (IsFittingCut m part b (entry y.num) raw) → IfErr made (StopsFitting m part b (entry y.num) raw) → Answers m part b point way lp (cut_answered basis made)
     cut_answers (Ok cut) h k = (s, is_cut_answer cut h)
-    cut_answers (Err make.Wide) h k = (s, refl, refl, record {
+    cut_answers (Err make.Wide) h k = ((s, refl, refl, record {
       z = z;
       y = y;
       least = l;
       sum = inl (record { rises = r; list_is = refl; at_is = refl; wide = k });
-    })
+    }), tt)
     cut_answers (Err make.OutOfMemory) h k = tt

@@ -126,7 +126,7 @@ module _ (m : Model) (part : List ℕ) (b : ℕ) (point : Master) (way : Mode) (
     (basis : List ℕ) (z y : Vals) (l : IsLeast true (program_of lp) basis z y) where
   pub fill_answers : (filled : Result BlockPart CheckFault) → Fills m part b point way z filled → Answers m part b point way lp (fill_answered basis filled)
   fill_answers (Ok fill) h = (s, h)
-  fill_answers (Err (fault.Wide list at)) h = (s, refl, refl, record { z = z; y = y; least = l; sum = inr h })
+  fill_answers (Err (fault.Wide list at)) h = ((s, refl, refl, record { z = z; y = y; least = l; sum = inr h }), tt)
   fill_answers (Err fault.OutOfMemory) h = tt
   fill_answers (Err fault.Shape) h = absurd h
   fill_answers (Err (fault.Point p at)) h = absurd h

@@ -22,7 +22,7 @@ use Rattle.bz_std.specs.Tasks.{IsSeparationLp}
 use Rattle.bz_event.specs.declared.answers.SepAnswer.{SepAnswer}
 use Rattle.bz_event.specs.declared.answers.SepAnswer.TheVariants as answer
 use Rattle.bz_event.specs.Separations.{IsFillAnswer, IsSepAnswer}
-use Rattle.bz_event.specs.Stops.{IsWideFillSum, IsWideInSeparation}
+use Rattle.bz_event.specs.Stops.{IsWideFillSum, IsWideInSeparation, NamesFirstRow}
 
 -- how many rows of a separation hold the block's cost to its eta
 abbrev pub cost_rows : Mode → ℕ
@@ -65,8 +65,10 @@ Fills m part b point way z (Err (fault.Wide list at)) = IsWideFillSum m part b p
 Fills m part b point way z (Err fault.OutOfMemory) = Unit {0}
 Fills m part b point way z (Err _) = ⊥
 
--- the answer is one of the separation, whose program is lp, or the separation stops at the wide place
+-- the answer is one of the separation, whose program is lp, or the separation stops at the wide place,
+-- of the right sides at the first
 abbrev pub Answers : Model → List ℕ → ℕ → Master → Mode → Lp → Result SepAnswer LpStop → Type 0
 Answers m part b point way lp (Ok a) = IsSeparationLp m part point b way lp × IsSepAnswer m part b point way lp a
-Answers m part b point way lp (Err (Wide at)) = IsWideInSeparation m part b point way lp at
+Answers m part b point way lp (Err (Wide at)) =
+    IsWideInSeparation m part b point way lp at × NamesFirstRow m part b point lp at
 Answers m part b point way lp (Err OutOfMemory) = Unit {0}

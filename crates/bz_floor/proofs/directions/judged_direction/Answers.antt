@@ -27,7 +27,7 @@ returns-in_err-judge_ray c =
     let ray : c.as_slice-2.result.now ≡ placed part c.args.block d = c.as_slice-2.ensures.value ∙ (rw c.as_slice.ensures at c.in_ok-ray.ensures) in
     let fault : IsFirstFault (ray_tests m (placed part c.args.block d)) g = rw ray at c.in_err-judge_ray.ensures in
     directs_passed m part c.args.block f g c.from_residual-in_err-judge_ray.result c.from_residual-in_err-judge_ray.ensures.1
-    (is_wide_ray m part c.requires.split c.args.block c.requires.first c.requires.last f c.requires.falls d c.in_ok-direction.ensures g fault)
+    (is_wide_ray m part c.requires.split c.args.block c.requires.first c.requires.last f c.requires.falls d c.in_ok-direction.ensures.primitive g fault)
 
 pub returns : goal.returns
 returns c =
@@ -37,4 +37,4 @@ returns c =
     let f = differences (entry c.args.d.now) in
     let ray : c.as_slice-2.result.now ≡ placed part c.args.block d = c.as_slice-2.ensures.value ∙ (rw c.as_slice.ensures at c.in_ok-ray.ensures) in
     let hold : AllHold (ray_tests m (placed part c.args.block d)) = rw ray at c.in_ok-judge_ray.ensures in
-    is_floor_ray m part c.requires.split c.args.block c.requires.first c.requires.last f c.requires.falls d c.in_ok-direction.ensures hold
+    is_floor_ray m part c.requires.split c.args.block c.requires.first c.requires.last f c.requires.falls d c.in_ok-direction.ensures.primitive c.in_ok-direction.ensures.narrow hold

@@ -14,8 +14,8 @@ lowest-requires-clause-positive c =
     let divisor : IsDivisorOf (unsigned_abs g) c.args.numbers.items = rw c.as_slice.ensures.value at c.common_divisor-divisor.ensures.divisor in
     rw (to_z-of_z fits) (some_divisor g c.args.numbers.items c.common_divisor-divisor.ensures.sign divisor c.requires.some)
 
-pub returns : goal.returns
-returns c =
+pub returns-clause-primitive : goal.returns-clause-primitive
+returns-clause-primitive c =
     let g = c.common_divisor-divisor.result in
     let fits : FitsSigned w128 g = search rules in
     let divisor : IsDivisorOf (unsigned_abs g) c.args.numbers.items = rw c.as_slice.ensures.value at c.common_divisor-divisor.ensures.divisor in
