@@ -1,5 +1,5 @@
 -- Rows that are filled position by position, inequality by inequality.
-use Rattle.std.proofs.Common.{◌≡◌, refl, sym, ◌∙◌, ap, subst, ℕ, zero, suc, ◌+◌, ◌<◌, ◌≤◌, Bool, true, false, cond, nat_eq, List, [], ◌∷◌, ◌++◌, length, take, drop, get_or, arith, ℤ, pos, negsuc, ◌+ℤ◌, inl, inr, append-nil, length-append}
+use Rattle.std.proofs.Common.{◌≡◌, refl, sym, ◌∙◌, ap, subst, ℕ, zero, suc, ◌+◌, ◌<◌, ◌≤◌, false, cond, nat_eq, List, [], ◌∷◌, ◌++◌, length, take, get_or, arith, ℤ, pos, negsuc, ◌+ℤ◌, inl, inr, append-nil, length-append}
 use Rattle.std.specs.Prelude.{replicate}
 use Rattle.std.specs.Prelude.{slice_index_or}
 use Rattle.std.specs.List.{AllByRecursion, enumerate_from}
@@ -10,14 +10,14 @@ use Rattle.bz_algebra.specs.Sums.{AllBelow, coef}
 use Rattle.bz_algebra.proofs.SumLemmas.{coef_append, coef_beyond}
 use Rattle.bz_num.specs.Row.{IsSparse, IsSparseFrom, entry_at}
 use Rattle.bz_num.proofs.Pushed.{below_pushed}
-use Rattle.bz_num.proofs.Rows.{coef-before, column-from}
+use Rattle.bz_num.proofs.Rows.{column-from}
 use Rattle.bz_model.specs.declared.records.Ineq.{Ineq}
 use Rattle.bz_model.specs.declared.entries.Terms.{Terms}
 use Rattle.bz_model.specs.declared.entries.Terms.TheVariants.{Own, Master}
 use Rattle.bz_model.specs.declared.entries.ByPosition.{ByPosition}
 use Rattle.bz_model.specs.Entries.{AreEntries, HasEntries, width_in}
 use Rattle.bz_model.specs.PartLists.{AreJoined, only_at}
-use Rattle.bz_model.specs.Rows.{own_at, terms_at, terms_of}
+use Rattle.bz_model.specs.Rows.{terms_at, terms_of}
 use Rattle.bz_model.proofs.Joins.{join_none, join_then, take_next}
 
 -- ---- the terms of one inequality

@@ -1,5 +1,5 @@
 -- The numbers by position that a split keeps.
-use Rattle.std.proofs.Common.{◌≡◌, refl, sym, ◌∙◌, ap, subst, ℕ, zero, suc, ◌+◌, ◌*◌, ◌<◌, ◌≤◌, ◌^◌, List, [], ◌∷◌, length, get_or, arith, ℤ}
+use Rattle.std.proofs.Common.{◌≡◌, sym, ◌∙◌, ap, subst, ℕ, zero, suc, ◌+◌, ◌<◌, ◌≤◌, ◌^◌, List, [], ◌∷◌, length, get_or, arith, ℤ}
 use Rattle.std.specs.Prelude.{slice_index_or}
 use Rattle.std.specs.List.{AllByRecursion, enumerate_from}
 use Rattle.bz_algebra.specs.Sums.{AllBelow, coef}
@@ -9,9 +9,9 @@ use Rattle.bz_model.specs.declared.entries.Terms.TheVariants.{Own, Master}
 use Rattle.bz_model.specs.declared.records.Ineq.{Ineq}
 use Rattle.bz_model.specs.declared.records.Model.{Model}
 use Rattle.bz_model.specs.Entries.{AreEntries, AreEntryLists, ArePartEntries, HasEntries, IsEntriesAt, RowsFit, rows_of, width_at, width_in}
-use Rattle.bz_model.specs.Parting.{blocks_of, columns_of, inequalities_of, width_of}
+use Rattle.bz_model.specs.Parting.{blocks_of, inequalities_of, width_of}
 use Rattle.bz_model.specs.PartLists.{AreColumnLists, AreInequalityLists}
-use Rattle.bz_model.specs.Rows.{master_at, own_at, terms_at}
+use Rattle.bz_model.specs.Rows.{terms_at}
 use Rattle.bz_model.specs.Splits.{FitsPart}
 use Rattle.bz_model.specs.Strict.{HasItsColumns}
 use Rattle.bz_model.proofs.Inequalities.{inequalities_fit, length-inequalities}

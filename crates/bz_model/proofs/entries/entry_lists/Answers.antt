@@ -1,4 +1,4 @@
-use Rattle.std.proofs.Common.{rules, ◌≡◌, ◌∙◌, ◌<◌, ap, ℕ, arith, length}
+use Rattle.std.proofs.Common.{◌≡◌, ◌∙◌, ◌<◌, ap, ℕ, arith, length}
 use Rattle.bz_model.specs.Entries.{width_in}
 use Rattle.bz_model.proofs.ByPosition.{item_is, list_more}
 use Rattle.bz_model.proofs.entries.entry_lists.Goals as goal

@@ -1,6 +1,6 @@
 use Rattle.std.proofs.Common.{rules, ◌≡◌, ◌∙◌}
 use Rattle.bz_model.specs.Rows.{terms_at}
-use Rattle.bz_model.proofs.ByPosition.{entries_end, entries_more, entries_start, terms_at_is, terms_beyond}
+use Rattle.bz_model.proofs.ByPosition.{entries_end, entries_more, terms_at_is, terms_beyond}
 use Rattle.bz_model.proofs.entries.rows_by_position.Goals as goal
 
 pub loop-place-preserved : goal.loop-place-preserved

@@ -1,4 +1,3 @@
-use Rattle.std.proofs.Common.{rules}
 use Rattle.bz_model.specs.Entries.{AreEntryLists}
 use Rattle.bz_model.proofs.KeptEntries.{entries_kept, parts_fit}
 use Rattle.bz_model.proofs.kept.keep.Goals as goal

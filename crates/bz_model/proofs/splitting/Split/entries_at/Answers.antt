@@ -1,9 +1,9 @@
-use Rattle.std.proofs.Common.{rules, ◌≡◌, ◌<◌, ◌≤◌, get_or, length, subst, sym}
+use Rattle.std.proofs.Common.{◌≡◌, ◌<◌, ◌≤◌, get_or, subst, sym}
 use Rattle.bz_model.specs.Entries.{IsEntriesAt, width_at}
 use Rattle.bz_model.specs.Parting.{blocks_of, inequalities_of}
 use Rattle.bz_model.specs.Rows.{terms_at}
 use Rattle.bz_model.specs.Splits.{Decomposition}
-use Rattle.bz_model.proofs.KeptEntries.{entries_told, part_within, position_within}
+use Rattle.bz_model.proofs.KeptEntries.{entries_told, position_within}
 use Rattle.bz_model.proofs.splitting.Split.entries_at.Goals as goal
 
 pub entries_in-requires : goal.entries_in-requires
