@@ -63,13 +63,6 @@ impl Split {
         &self.model
     }
 
-    /// The part of each column.
-    pub(crate) fn part(&self) -> &[u32]
-        ensures { result.now ≡ self.now.part }
-    {
-        self.part.as_slice()
-    }
-
     /// The number of blocks. It takes no memory.
     pub fn blocks(&self) -> u32
         ensures value { result ≡ blocks_of self.now.part }
