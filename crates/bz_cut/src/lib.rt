@@ -24,7 +24,8 @@ pub use lists::are_multipliers;
 pub use mode::Mode;
 pub use points::{cuts_off, same};
 pub use records::Cut;
-pub use sums::{Terms, column_sum, rhs_sum};
+pub use sums::{column_sum, position_sum, rhs_sum};
+pub use bz_model::Terms;
 
 #[cfg(test)]
 mod tests;

@@ -3,6 +3,7 @@
 #![tactic(auto)]
 
 mod costs;
+mod entries;
 mod growing;
 mod homes;
 mod kept;
@@ -20,6 +21,7 @@ mod stated;
 mod widths;
 
 pub use costs::inner_number;
+pub use entries::Terms;
 pub use homes::home;
 pub use laws::feasible_is_meeting_all_parts;
 pub use objective::{numerator, stated_of};
