@@ -14,3 +14,6 @@ mod solving;
 mod sums;
 
 pub use solving::solve_node;
+
+#[cfg(test)]
+mod tests;
