@@ -6,8 +6,6 @@ use Rattle.std.proofs.lemmas.Int.{ints}
 use Rattle.bz_algebra.specs.Sums.{AllBelow}
 use Rattle.bz_model.specs.declared.Column.{Column}
 use Rattle.bz_model.specs.declared.Model.{Model}
-use Rattle.bz_model.specs.Strict.{HasItsColumns, IsPartition, IsStrict}
-use Rattle.bz_model.proofs.Inequalities.{size_within}
 use Rattle.bz_model.specs.Worked.{AreWorkedColumns}
 use Rattle.bz_cut.specs.declared.Cut.{Cut}
 use Rattle.bz_cut.specs.declared.Mode.{Mode}
@@ -69,25 +67,8 @@ pub ready : (part : List ℕ) (cuts : List Cut) (way : Mode) → part ≡ worked
 ready part cuts way e h = subst (λ (p : List ℕ). IsReady p cuts way) (sym e) (ready_here cuts way h)
 
 -- ---- the model without rows and columns
-module _ (m : Model) (h : IsBareModel m) where
-  pub bare_indexes : HasItsColumns m
-  bare_indexes = record { rows = rw h.rows tt; cost = rw h.cost tt }
-
-  pub bare_partition : IsPartition m []
-  bare_partition = record { numbers = rw h.columns refl; used = λ b l u. absurd (omega arith); few = omega arith }
-
-  pub bare_strict : IsStrict m []
-  bare_strict =
-      let no_rows : length m.rows ≡ 0 = rw h.rows refl in
-      let no_columns : length m.columns ≡ 0 = rw h.columns refl in
-      record {
-        rows = rw h.rows tt;
-        columns = rw h.columns tt;
-        small = λ b l. omega (arith, no_rows, no_columns, size_within m [] b);
-      }
-
-  pub bare_box : (region : NodeBox) → region.lower ≡ [] → region.upper ≡ [] → IsBoxOf m (box_of region)
-  bare_box region lower upper = record { lowers = rw (lower, h.columns) refl; uppers = rw (upper, h.columns) refl }
+pub bare_box : (m : Model) → IsBareModel m → (region : NodeBox) → region.lower ≡ [] → region.upper ≡ [] → IsBoxOf m (box_of region)
+bare_box m h region lower upper = record { lowers = rw (lower, h.columns) refl; uppers = rw (upper, h.columns) refl }
 
 pub bare_ready : (part : List ℕ) (cuts : List Cut) (way : Mode) → part ≡ [] → way ≡ mode.Cost → IsReady part cuts way
 bare_ready part cuts way e f = rw (e, f) (λ b l u. absurd (omega arith))
