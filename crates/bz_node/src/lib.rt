@@ -6,8 +6,8 @@
 #![tactic(auto)]
 
 mod fractional;
-mod leaves;
 mod least;
+mod leaves;
 mod points;
 mod programs;
 mod solving;

@@ -240,7 +240,9 @@ fn bare_answer(alloc: Global) -> Result<NodeAnswer, OutOfMemory> {
 fn split_at(answer: &NodeAnswer) -> Option<(u32, i128)> {
     match answer {
         NodeAnswer::Split {
-            position, value, ..
+            position,
+            value,
+            ..
         } => Some((*position, *value)),
         _ => None,
     }
@@ -283,10 +285,7 @@ fn a_root_is_split_at_the_fractional_column(rt: HostRuntime) -> Result<(), Fail>
 /// Over the same cut x = 0 costs 3 with the eta 3, and x = 1 costs 2.
 #[test]
 fn a_whole_point_comes_with_the_leaf_of_its_cost(rt: HostRuntime) -> Result<(), Fail> {
-    let table = [
-        (0, 3, [(0, 4), (3, 1)], 3),
-        (1, 0, [(1, 2), (2, 1)], 2),
-    ];
+    let table = [(0, 3, [(0, 4), (3, 1)], 3), (1, 0, [(1, 2), (2, 1)], 2)];
     for (x, eta, multipliers, cost) in table {
         let answer = answer(rt.alloc(), x, x, (-6, 1, -3), Mode::Cost)?;
         assert_eq!(rt; point(&answer), Some((1, [x].as_slice(), [eta].as_slice())));
