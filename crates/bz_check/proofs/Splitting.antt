@@ -16,28 +16,7 @@ use Rattle.bz_tree.specs.Trees.{IsSplitOf}
 use Rattle.bz_judge.specs.declared.CheckFault.{CheckFault}
 use Rattle.bz_judge.specs.declared.CheckFault.TheVariants as fault
 use Rattle.bz_tree.specs.Integers.{integer_at, positions_of}
-
-pub place_mapped : {X : Type 0} (f : X → ℕ) (xs : List X) (p : ℕ) → position_or_len (λ n. n == p) (map f xs) ≡ position_or_len (λ x. f x == p) xs
-place_mapped f [] p = refl
-place_mapped f (x ∷ xs) p = elim (cases_Bool (f x == p)) [ inl t ↦ rw t refl | inr t ↦ rw t (ap (λ (n : ℕ). 1 + n) (place_mapped f xs p)) ]
-
--- the place among the positions is that among the integer columns
-pub place_is : (m : Model) (part : List ℕ) (p : ℕ) → position_or_len (λ n. n == p) (positions_of m part) ≡ integer_at m part p
-place_is m part p = place_mapped (λ e. position_of part e.0) (integers_of m) p
-
-stands_at : (part : List ℕ) (es : List (ℕ × Column)) (p : ℕ) → position_or_len (λ e. position_of part e.0 == p) es < length es → (e : ℕ × Column) × (slice_get es (position_or_len (λ d. position_of part d.0 == p) es) ≡ Some e) × (position_of part e.0 ≡ p)
-stands_at part [] p l = absurd (omega arith)
-stands_at part (e ∷ es) p l =
-    let test : ℕ × Column → Bool = λ d. position_of part d.0 == p in
-    let k : ℕ = position_or_len test (e ∷ es) in
-    (get_or (e ∷ es) k e, slice_get-get_or (e ∷ es) k e l, eqb-true (position_of part (get_or (e ∷ es) k e).0) p (passes_at_first test (e ∷ es) e l))
-
-pub splits_where : (m : Model) (part : List ℕ) (p : ℕ) (left right : ℤ) → right ≡ left +ℤ pos 1 → position_or_len (λ n. n == p) (positions_of m part) < length (positions_of m part) → IsSplitOf m part (integer_at m part p) p left right
-splits_where m part p left right next within =
-    let same = place_is m part p in
-    let count = length-map (integers_of m) (λ e. position_of part e.0) in
-    let at = stands_at part (integers_of m) p (omega (arith, same, count, within)) in
-    record { column = at.0; is_column = at.1; at_position = at.2; next = next }
+use Rattle.bz_tree.proofs.SplitColumns.{place_is, splits_where}
 
 pub none_where : (m : Model) (part : List ℕ) (p : ℕ) (left right : ℤ) → length (positions_of m part) ≤ position_or_len (λ n. n == p) (positions_of m part) → IsSplitOf m part (integer_at m part p) p left right → ⊥
 none_where m part p left right past h =

@@ -1,6 +1,7 @@
 //! Whether the lists of a certificate's point fit the split.
 ghost use Rattle.std.specs.Prelude.{◌≡◌, ◌↔◌, ◌≤◌, [], ◌∷◌, IsTrue, length};
 ghost use Rattle.std.specs.List.{AllByRecursion, enumerate_from};
+ghost use Rattle.bz_model.specs.Limits.{block_limit};
 ghost use Rattle.bz_model.specs.Parting.{blocks_of};
 ghost use Rattle.bz_first.specs.Tests.{Judges, test};
 ghost use Rattle.bz_model.specs.PartPoints.{HasBlockShape, HasMasterShape, HasPointShape, HasShape};
@@ -21,7 +22,7 @@ fn block_has_shape(split: &Split, b: u32, block: &BlockPart) -> bool
 /// The same of all blocks.
 fn blocks_have_shape(split: &Split, blocks: &[BlockPart]) -> bool
     requires fits { length blocks.now ≡ blocks_of split.now.part }
-    requires few { length blocks.now ≤ 256 }
+    requires few { length blocks.now ≤ block_limit }
     ensures { IsTrue result ↔ AllByRecursion (HasBlockShape split.now.part) (enumerate_from 1 blocks.now) }
 {
     for (place, block) in blocks.iter().enumerate() {

@@ -1,7 +1,8 @@
 -- Steps of loops over lists.
-use Rattle.std.proofs.Common.{◌≡◌, refl, ℕ, zero, suc, ◌<◌, List, [], ◌∷◌, length, get_or, arith, ℤ}
+use Rattle.std.proofs.Common.{◌≡◌, ◌∙◌, ap, refl, ℕ, zero, suc, ◌<◌, List, [], ◌∷◌, length, get_or, arith, ℤ}
 use Rattle.std.specs.List.{AllByRecursion}
 use Rattle.bz_algebra.specs.Sums.{AllBelow}
+use Rattle.bz_num.specs.Fold.{pairs_at}
 use Rattle.bz_model.specs.declared.Ineq.{Ineq}
 use Rattle.bz_cut.specs.Rows.{own_at, master_at, rhs_at, AreMultipliers}
 
@@ -34,3 +35,8 @@ below_all n (e ∷ es) h = (h.0, below_all n es h.1)
 pub all_below : (n : ℕ) (es : List (ℕ × ℤ)) → AllBelow n es → AllByRecursion (λ e. e.0 < n) es
 all_below n [] h = tt
 all_below n (e ∷ es) h = (h.0, all_below n es h.1)
+
+-- pairs with numbers that are equal
+pub pairs_same : (es : List (ℕ × ℤ)) (f g : ℕ → ℤ) → ((n : ℕ) → f n ≡ g n) → pairs_at es f ≡ pairs_at es g
+pairs_same [] f g h = refl
+pairs_same (e ∷ es) f g h = ap (λ (z : ℤ). (e.1, z) ∷ pairs_at es f) (h e.0) ∙ ap (λ (ps : List (ℤ × ℤ)). (e.1, g e.0) ∷ ps) (pairs_same es f g h)

@@ -5,5 +5,4 @@ pub mod Laws
 pub mod Points
 pub mod Rows
 pub mod SumTests
-pub mod Sums
 pub mod Worked

@@ -7,11 +7,11 @@ ghost use Rattle.bz_first.specs.Tests.{Judges};
 
 use crate::faults::CutFault;
 use crate::judging::{judge_equation, judge_opposite, judge_product};
-use crate::lists::{all_below, are_multipliers};
+use crate::lists::are_multipliers;
 use crate::records::Cut;
-use crate::sums::{Terms, column_sum, rhs_sum};
+use crate::sums::{position_sum, rhs_sum};
 use bz_first::{PlaceTests, judge_below};
-use bz_model::Split;
+use bz_model::{Split, Terms};
 
 /// Whether the block is one of the split's.
 fn has_block(split: &Split, cut: &Cut) -> bool
@@ -27,7 +27,7 @@ fn judge_form(split: &Split, cut: &Cut) -> Result<(), CutFault>
     if !has_block(split, cut) {
         return Err(CutFault::Invalid);
     }
-    if !all_below(&cut.alpha, split.width(0)) {
+    if !split.has_positions(0, &cut.alpha) {
         return Err(CutFault::Invalid);
     }
     if !are_multipliers(&cut.mu, split.inequalities(cut.block).len()) {
@@ -61,8 +61,7 @@ impl PlaceTests<CutFault> for OwnEquations<'_> {
 
     fn judge_at(&self, position: u32) -> Result<(), CutFault> {
         let cut = self.cut;
-        let rows = self.split.inequalities(cut.block);
-        let sum = column_sum(&cut.mu, rows, Terms::Own, position);
+        let sum = position_sum(self.split, cut.block, &cut.mu, Terms::Own, position);
         let cost = self.split.inner_cost(cut.block, position);
         judge_opposite(sum, self.factor, cost, CutFault::Invalid, CutFault::Wide)
     }
@@ -86,14 +85,14 @@ struct MasterEquations<'a> {
 }
 
 impl PlaceTests<CutFault> for MasterEquations<'_> {
-    ghost takes = { λ e position. HasPlaces e.split.now.model e.split.now.part e.cut.now };
+    ghost takes = { λ e position.
+        HasPlaces e.split.now.model e.split.now.part e.cut.now × (position < width_of e.split.now.part 0) };
 
     ghost tests = { λ e. master_tests e.split.now.model e.split.now.part e.cut.now };
 
     fn judge_at(&self, position: u32) -> Result<(), CutFault> {
         let cut = self.cut;
-        let rows = self.split.inequalities(cut.block);
-        let sum = column_sum(&cut.mu, rows, Terms::Master, position);
+        let sum = position_sum(self.split, cut.block, &cut.mu, Terms::Master, position);
         let number = cut.alpha.at(position);
         judge_equation(sum, cut.gcd, number, CutFault::Invalid, CutFault::Wide)
     }

@@ -20,11 +20,12 @@ pub use judging::{
     judge_at_most, judge_equation, judge_fold, judge_opposite, judge_product, judge_sum,
 };
 pub use laws::{cut_faults_are_unique, cut_tests_tell};
-pub use lists::{all_below, are_multipliers};
+pub use lists::are_multipliers;
 pub use mode::Mode;
 pub use points::{cuts_off, same};
 pub use records::Cut;
-pub use sums::{Terms, column_sum, rhs_sum};
+pub use sums::{column_sum, position_sum, rhs_sum};
+pub use bz_model::Terms;
 
 #[cfg(test)]
 mod tests;

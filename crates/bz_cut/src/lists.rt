@@ -1,6 +1,5 @@
-//! Lists of multipliers and of positions.
+//! Lists of multipliers.
 ghost use Rattle.std.specs.Prelude.{◌↔◌, ◌<◌, pos, ◌<ℤ◌, IsTrue};
-ghost use Rattle.bz_algebra.specs.Sums.{AllBelow};
 ghost use Rattle.bz_cut.specs.Rows.{AreMultipliers};
 
 use bz_num::SparseRow;
@@ -18,18 +17,6 @@ pub fn are_multipliers(row: &SparseRow, count: usize) -> bool
 {
     for entry in row.as_slice() {
         if !is_multiplier(entry, count) {
-            return false;
-        }
-    }
-    true
-}
-
-/// Whether each index of the row is below `count`. It takes no memory.
-pub fn all_below(row: &SparseRow, count: u32) -> bool
-    ensures { IsTrue result ↔ AllBelow count row.now }
-{
-    for entry in row.as_slice() {
-        if entry.0 >= count {
             return false;
         }
     }

@@ -1,21 +1,14 @@
-//! The numbers of inequalities, by their places.
-ghost use Rattle.std.specs.Prelude.{◌≡◌, ◌<◌, ℕ, ℤ, length};
+//! Sums of inequalities, each times its multiplier.
+ghost use Rattle.std.specs.Prelude.{◌≡◌, ◌<◌, ◌≤◌, ℕ, ℤ, length};
 ghost use Rattle.bz_algebra.specs.Sums.{coef};
 ghost use Rattle.bz_num.specs.Fold.{fold_of, pairs_at};
-ghost use Rattle.bz_cut.specs.Rows.{AreMultipliers, rhs_at};
-ghost use Rattle.bz_cut.specs.Sums.{terms_at};
+ghost use Rattle.bz_model.specs.Entries.{width_at};
+ghost use Rattle.bz_model.specs.Parting.{blocks_of, inequalities_of};
+ghost use Rattle.bz_model.specs.Rows.{rhs_at, terms_at};
+ghost use Rattle.bz_cut.specs.Rows.{AreMultipliers};
 
-use bz_model::Ineq;
-use bz_num::{Numbers, SparseRow, WideSum, sum_at};
-
-/// Which terms of an inequality.
-#[derive(Clone, Copy, Debug, PartialEq, Eq)]
-pub enum Terms {
-    /// Those of its own part.
-    Own,
-    /// Those of the master.
-    Master,
-}
+use bz_model::{Ineq, Split, Terms};
+use bz_num::{Numbers, SparseRow, WideSum, sparse_sum, sum_at};
 
 /// The numbers of inequalities at a position.
 #[derive(Clone, Copy)]
@@ -71,6 +64,23 @@ pub fn column_sum(
         position,
     };
     sum_at(multipliers, &numbers)
+}
+
+/// The same of a part's inequalities, by what a split keeps of them: it goes over those alone that have a number at the
+/// position.
+pub fn position_sum(
+    split: &Split,
+    part: u32,
+    multipliers: &SparseRow,
+    terms: Terms,
+    position: u32,
+) -> Result<i128, WideSum>
+    requires part { part ≤ blocks_of split.now.part }
+    requires position { position < width_at terms split.now.part part }
+    ensures { result ≡ fold_of (pairs_at multipliers.now
+        (λ n. coef (terms_at terms (inequalities_of split.now.model split.now.part part) n) position)) }
+{
+    sparse_sum(multipliers, split.entries_at(part, terms, position))
 }
 
 /// The sum of the right sides of the inequalities, each times its multiplier, or its first wide place.

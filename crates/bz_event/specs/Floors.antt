@@ -1,7 +1,7 @@
 -- What the maker of a floor's answer promises of it.
 use Rattle.std.specs.Prelude.{ℕ, ◌≡◌, ◌<◌, ◌≤◌, ◌==◌, if◌then◌else◌, ℤ, pos, ◌<ℤ◌, List, length, map, Option, None, false}
 use Rattle.std.specs.List.{AllByRecursion, enumerate_from}
-use Rattle.bz_num.specs.Dense.{DividesRow, entry}
+use Rattle.bz_num.specs.Dense.{AreNarrow, DividesRow, entry}
 use Rattle.bz_num.specs.Fold.{IsNarrowSum}
 use Rattle.bz_model.specs.declared.Model.{Model}
 use Rattle.bz_model.specs.Parting.{blocks_of, inner_cost, position_of, width_of}
@@ -47,6 +47,7 @@ pub record FitsDirection (m : Model) (ray : List ℤ) : Type 0 where
 -- and no sum is wide along it.
 pub record IsFloorRay (m : Model) (part : List ℕ) (b : ℕ) (d : List ℤ) : Type 0 where
   pub numbers : length d ≡ width_of part b
+  pub narrow : AreNarrow d
   pub primitive : (g : ℕ) → DividesRow g d → g ≡ 1
   pub falls : IsFallAlong (floor m part b) (entry d)
   pub fits : FitsDirection m (placed part b d)

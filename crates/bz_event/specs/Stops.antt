@@ -1,9 +1,11 @@
 -- What the maker of a stop promises of it: the number that is named is wide, and the task comes there.
-use Rattle.std.specs.Prelude.{ℕ, zero, ◌+◌, ◌*◌, ◌<◌, ◌≤◌, ◌≡◌, ◌⊎◌, ℤ, pos, ◌*ℤ◌, ◌<ℤ◌, Bool, true, false, List, [], ◌∷◌, ◌++◌, length, Option, Some, None}
+use Rattle.std.specs.Prelude.{ℕ, zero, suc, ◌+◌, ◌*◌, ◌<◌, ◌≤◌, ◌≡◌, ◌⊎◌, ℤ, pos, ◌*ℤ◌, ◌<ℤ◌, Bool, true, false, List, [], ◌∷◌, ◌++◌, length, Option, Some, None}
 use Rattle.std.specs.List.{AllByRecursion, enumerate_from}
 use Rattle.bz_first.specs.Tests.{each_of}
 use Rattle.bz_num.specs.Dense.{DividesRow, entry}
+use Rattle.bz_num.specs.Fold.{IsNarrowSum}
 use Rattle.bz_model.specs.declared.BlockPart.{BlockPart}
+use Rattle.bz_model.specs.declared.Ineq.{Ineq}
 use Rattle.bz_model.specs.declared.Master.{Master}
 use Rattle.bz_model.specs.declared.Model.{Model}
 use Rattle.bz_model.specs.Parting.{blocks_of, inequalities_of, width_of}
@@ -31,7 +33,7 @@ use Rattle.bz_std.specs.LowestForms.{IsLowestOf}
 use Rattle.bz_std.specs.Meanings.{differences}
 use Rattle.bz_std.specs.Posed.{IsProgramOf}
 use Rattle.bz_std.specs.Stops.{IsFirstWideRow}
-use Rattle.bz_std.specs.Tasks.{IsBoxOf, IsCutOfSplit, IsMasterOf, IsSeparationLp, floor, node}
+use Rattle.bz_std.specs.Tasks.{IsBoxOf, IsCutOfSplit, IsMasterOf, IsSeparationLp, floor, node, right_pairs}
 use Rattle.bz_event.specs.declared.answers.Solved.{Solved}
 use Rattle.bz_event.specs.declared.answers.TaskStop.{TaskStop}
 use Rattle.bz_event.specs.declared.answers.TaskStop.TheVariants as stop
@@ -159,11 +161,22 @@ pub record IsNoProgram (lp : Lp) : Type 0 where
   pub rows : lp.rows ≡ []
   pub cost : lp.cost ≡ []
 
--- a separation stops at the first right side whose sum is wide, at a wide place of its relaxed program's solution, or at
--- a wide sum of what the answer makes
+-- a program without rows and columns
+pub record HasNoRows (lp : Lp) : Type 0 where
+  pub columns : lp.columns ≡ 0
+  pub rows : lp.rows ≡ []
+
+-- the sum of the right side of this row of the list is wide at the point
+abbrev pub IsWideRow : Master → List Ineq → ℕ → Type 0
+IsWideRow point [] row = ⊥
+IsWideRow point (i ∷ is) zero = ¬ IsNarrowSum (right_pairs point i)
+IsWideRow point (i ∷ is) (suc row) = IsWideRow point is row
+
+-- a separation stops at a right side whose sum is wide, at a wide place of its relaxed program's solution, or at a wide
+-- sum of what the answer makes
 abbrev pub IsWideInSeparation : Model → List ℕ → ℕ → Master → Mode → Lp → WideAt → Type 0
 IsWideInSeparation m part b point way lp (Build row) =
-    IsNoProgram lp × IsFirstWideRow point (inequalities_of m part b) row
+    HasNoRows lp × IsWideRow point (inequalities_of m part b) row
 IsWideInSeparation m part b point way lp (Pivot relaxed basis goal row pivot_row column) =
     IsSeparationLp m part point b way lp
     × IsTrueWide lp (Pivot relaxed basis goal row pivot_row column) × (relaxed ≡ true)
@@ -172,6 +185,14 @@ IsWideInSeparation m part b point way lp (Den relaxed basis at) =
 IsWideInSeparation m part b point way lp (Fold relaxed basis column list at) =
     IsSeparationLp m part point b way lp × (relaxed ≡ true) × (column ≡ None)
     × IsWideSeparation m part b point way lp basis list at
+
+-- where a separation names a right side, it is the first whose sum is wide, and the program that is carried has no cost
+-- either
+abbrev pub NamesFirstRow : Model → List ℕ → ℕ → Master → Lp → WideAt → Type 0
+NamesFirstRow m part b point lp (Build row) = IsNoProgram lp × IsFirstWideRow point (inequalities_of m part b) row
+NamesFirstRow m part b point lp (Pivot relaxed basis goal row pivot_row column) = Unit {0}
+NamesFirstRow m part b point lp (Den relaxed basis at) = Unit {0}
+NamesFirstRow m part b point lp (Fold relaxed basis column list at) = Unit {0}
 
 -- a floor stops at a wide place of its program's solution, or at a wide sum of what the answer makes
 abbrev pub IsWideInFloor : Model → List ℕ → ℕ → Lp → WideAt → Type 0
@@ -248,9 +269,10 @@ abbrev pub StopsSomeTask : Model → List ℕ → Solved WideAt → Type 0
 StopsSomeTask m part s = StopsSomeSeparation m part s ⊎ (StopsSomeFloor m part s ⊎ StopsSomeNode m part s)
 
 -- ---- why a task has no answer
--- there was no memory, or the separation stops at a wide number
+-- there was no memory, or the separation stops at a wide number, of the right sides at the first
 abbrev pub EndsSeparation : Model → List ℕ → ℕ → ℕ → Master → Mode → TaskStop → Type 0
-EndsSeparation m part post b point way (stop.Wide s) = StopsSeparation m part post b point way s
+EndsSeparation m part post b point way (stop.Wide s) =
+    StopsSeparation m part post b point way s × NamesFirstRow m part b point s.lp s.answer
 EndsSeparation m part post b point way stop.OutOfMemory = Unit {0}
 
 -- the same of a floor

@@ -2,6 +2,7 @@
 ghost use Rattle.std.specs.Prelude.{◌≡◌, ◌<◌, ◌≤◌, IfOk, length};
 ghost use Rattle.std.specs.List.{AllByRecursion, enumerate_from};
 ghost use Rattle.bz_num.specs.Fold.{fold_of};
+ghost use Rattle.bz_model.specs.Limits.{block_limit};
 ghost use Rattle.bz_model.specs.Parting.{blocks_of, inner_cost, terms_in, width_of};
 ghost use Rattle.bz_first.specs.Tests.{Judges};
 ghost use Rattle.bz_model.specs.PartPoints.{HasBlockShape};
@@ -89,7 +90,7 @@ impl ItemTests<BlockPart, CheckFault> for Costs<'_> {
 /// Tests that the inner cost of each block is at most its eta.
 pub fn judge_costs(split: &Split, master: &Master, blocks: &[BlockPart]) -> Result<(), CheckFault>
     requires count { length blocks.now ≡ blocks_of split.now.part }
-    requires few { length blocks.now ≤ 256 }
+    requires few { length blocks.now ≤ block_limit }
     requires eta { length master.now.eta ≡ blocks_of split.now.part }
     requires shapes { AllByRecursion (HasBlockShape split.now.part) (enumerate_from 1 blocks.now) }
     ensures { Judges (costs_tests split.now.model split.now.part master.now blocks.now) result }

@@ -3,6 +3,7 @@ ghost use Rattle.std.specs.Prelude.{◌≡◌, ◌<◌, ◌≤◌, ◌^◌, ◌+
 ghost use Rattle.std.specs.List.{AllByRecursion, enumerate_from};
 ghost use Rattle.bz_algebra.specs.Sums.{AllBelow};
 ghost use Rattle.bz_num.specs.Fold.{IsNarrowSum};
+ghost use Rattle.bz_model.specs.Limits.{block_limit};
 ghost use Rattle.bz_model.specs.Parting.{blocks_of, width_of};
 ghost use Rattle.bz_model.specs.Splits.{IsSplit};
 ghost use Rattle.bz_first.specs.Tests.{Judges, each_of, test};
@@ -167,7 +168,7 @@ impl ItemTests<BlockPart, CheckFault> for Blocks<'_> {
 /// Whether all blocks hold at the point.
 pub fn judge_blocks(split: &Split, master: &Master, blocks: &[BlockPart]) -> Result<(), CheckFault>
     requires count { length blocks.now ≡ blocks_of split.now.part }
-    requires few { length blocks.now ≤ 256 }
+    requires few { length blocks.now ≤ block_limit }
     requires x { length master.now.x ≡ width_of split.now.part 0 }
     requires shapes { AllByRecursion (HasBlockShape split.now.part) (enumerate_from 1 blocks.now) }
     ensures { Judges (blocks_tests split.now.model split.now.part master.now blocks.now) result }

@@ -62,10 +62,10 @@ home_only part row b = elim (cases_eq (home_of part row.terms) b) [
 ]
 
 -- the part that is kept of a row is its part
-pub kept_home : (part homes : List ℕ) (rows : List Row) (i : ℕ) (row : Row) → homes ≡ homes_of part rows → i < length rows →
-    row ≡ get_or rows i row → slice_index_or homes i 0 ≡ home_of part row.terms
-kept_home part homes rows i row h l e =
-    ap (λ (hs : List ℕ). slice_index_or hs i 0) h ∙ get_or-map (λ (r : Row). home_of part r.terms) rows i row 0 l
+pub kept_home : (part homes : List ℕ) (rows : List Row) (i : ℕ) (item : Row) → homes ≡ homes_of part rows → i < length rows →
+    item ≡ get_or rows i item → slice_index_or homes i 0 ≡ home_of part item.terms
+kept_home part homes rows i item h l e =
+    ap (λ (hs : List ℕ). slice_index_or hs i 0) h ∙ get_or-map (λ (r : Row). home_of part r.terms) rows i item 0 l
     ∙ ap (λ (r : Row). home_of part r.terms) (sym e)
 
 pub rows_more : (part : List ℕ) (rows : List Row) (i : ℕ) (row : Row) {old mid new : List (List Ineq)} → i < length rows → row ≡ get_or rows i row → AreJoined old mid (sides_of_rows part (take i rows)) → AreJoined mid new (only_at (home_of part row.terms) (sides_of_row part (home_of part row.terms) row)) → AreJoined old new (sides_of_rows part (take (i + 1) rows))

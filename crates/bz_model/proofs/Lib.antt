@@ -1,7 +1,9 @@
 pub mod BoundedIntegers
+pub mod ByPosition
 pub mod Inequalities
 pub mod InnerCosts
 pub mod Joins
+pub mod KeptEntries
 pub mod Lowest
 pub mod MeetingParts
 pub mod Numbered

@@ -1,8 +1,8 @@
 -- The inner cost of a part, and the width of a part.
-use Rattle.std.proofs.Common.{◌≡◌, refl, sym, subst, ℕ, suc, ◌<◌, ◌≤◌, ◌^◌, Bool, true, false, cond, List, [], ◌∷◌, length, arith, ℤ, pos, ◌+ℤ◌, nat_eq, neg_ℤ}
+use Rattle.std.proofs.Common.{◌≡◌, refl, ℕ, ◌<◌, ◌≤◌, ◌^◌, Bool, true, false, cond, List, [], ◌∷◌, length, arith, ℤ, pos, ◌+ℤ◌, nat_eq, neg_ℤ}
 use Rattle.std.proofs.lemmas.Int.{ints}
 use Rattle.std.proofs.lemmas.List.Sums.{count_by-le-length}
-use Rattle.bz_algebra.specs.Sums.{AllBelow, coef}
+use Rattle.bz_algebra.specs.Sums.{coef}
 use Rattle.bz_model.specs.Parting.{column_at, columns_of, width_of, inner_cost, negated, terms_in}
 use Rattle.bz_model.specs.Splits.{Decomposition, IsSplit}
 use Rattle.bz_model.proofs.InnerCosts.{cost_within, decomposed}

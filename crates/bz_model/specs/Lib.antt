@@ -1,4 +1,5 @@
 pub mod Decomposed
+pub mod Entries
 pub mod Limits
 pub mod Meeting
 pub mod PartLists
@@ -8,6 +9,7 @@ pub mod PointFits
 pub mod PointSums
 pub mod Points
 pub mod Rays
+pub mod Rows
 pub mod Sizes
 pub mod Splits
 pub mod Stated

@@ -5,6 +5,7 @@ use Rattle.bz_algebra.specs.Sums.{AllBelow}
 use Rattle.bz_model.specs.declared.kept.Kept.{Kept}
 use Rattle.bz_model.specs.declared.records.Ineq.{Ineq}
 use Rattle.bz_model.specs.declared.records.Model.{Model}
+use Rattle.bz_model.specs.Entries.{ArePartEntries}
 use Rattle.bz_model.specs.Parting.{blocks_of, homes_of, width_of}
 use Rattle.bz_model.specs.PartLists.{AreColumnLists, AreInequalityLists}
 use Rattle.bz_model.specs.Strict.{HasItsColumns, IsPartition, IsStrict}
@@ -27,9 +28,10 @@ pub record FitsPart (part : List ℕ) (b : ℕ) (i : Ineq) : Type 0 where
   pub rhs : IsNarrow i.rhs
 
 -- what a split keeps beside its model and partition: how many blocks, the part of each row, and the columns and the
--- inequalities of each part
+-- inequalities of each part, with their numbers by position
 pub record IsKept (m : Model) (part : List ℕ) (kept : Kept) : Type 0 where
   pub blocks_are : kept.blocks ≡ blocks_of part
   pub homes_are : kept.homes.items ≡ homes_of part m.rows
   pub columns_are : AreColumnLists part kept.columns.items
   pub inequalities_are : AreInequalityLists m part kept.inequalities.items
+  pub entries_are : ArePartEntries m part kept.entries

@@ -5,6 +5,7 @@ use Rattle.std.specs.List.{AllByRecursion, enumerate_from}
 use Rattle.bz_algebra.specs.Sums.{AllBelow}
 use Rattle.bz_model.specs.declared.records.Column.{Column}
 use Rattle.bz_model.specs.declared.records.Model.{Model}
+use Rattle.bz_model.specs.Limits.{block_limit, size_limit}
 use Rattle.bz_model.specs.Parting.{part_of, blocks_of, home_of, inequalities_of, integers_of}
 
 -- each index in a row or in the cost is a column
@@ -12,11 +13,11 @@ pub record HasItsColumns (m : Model) : Type 0 where
   pub rows : AllByRecursion (λ row. AllBelow (length m.columns) row.terms) m.rows
   pub cost : AllBelow (length m.columns) m.cost
 
--- one number per column, each number from 1 to the greatest used, none above 256
+-- one number per column, each number from 1 to the greatest used, none above the limit
 pub record IsPartition (m : Model) (part : List ℕ) : Type 0 where
   pub numbers : length part ≡ length m.columns
   pub used : (b : ℕ) → 0 < b → b ≤ blocks_of part → Contains part b
-  pub few : blocks_of part ≤ 256
+  pub few : blocks_of part ≤ block_limit
 
 -- no two columns of the row are in two blocks: each is in the master or in the row's block
 abbrev pub IsInOneBlock : List ℕ → List (ℕ × ℤ) → Type 0
@@ -44,4 +45,4 @@ size_of m part b = length (inequalities_of m part b) + (if b == 0 then 2 * lengt
 pub record IsStrict (m : Model) (part : List ℕ) : Type 0 where
   pub rows : AreUnjoined m part
   pub columns : AreStrictColumns m part
-  pub small : (b : ℕ) → b ≤ blocks_of part → size_of m part b ≤ 1024
+  pub small : (b : ℕ) → b ≤ blocks_of part → size_of m part b ≤ size_limit

@@ -1,4 +1,4 @@
-//! The widths of parts, and the cost that is minimised, by part and position.
+//! The cost that is minimised, by column, and by part and position.
 ghost use Rattle.std.specs.Prelude.{◌≡◌, ◌<◌, ◌≤◌, if◌then◌else◌};
 ghost use Rattle.std.proofs.Math.IntN.{neg_ℤ};
 ghost use Rattle.bz_algebra.specs.Numbers.{IsNarrow};
@@ -27,14 +27,6 @@ fn column_cost(model: &Model, column: u32) -> i128
 }
 
 impl Split {
-    /// How many columns a part has.
-    pub fn width(&self, part: u32) -> u32
-        requires { part ≤ blocks_of self.now.part }
-        ensures { result ≡ width_of self.now.part part }
-    {
-        self.columns_of(part).len() as u32
-    }
-
     /// The number at a position of a part in the cost that is minimised.
     pub fn inner_cost(&self, part: u32, position: u32) -> i128
         requires part { part ≤ blocks_of self.now.part }

@@ -3,6 +3,7 @@
 #![tactic(auto)]
 
 mod costs;
+mod entries;
 mod growing;
 mod homes;
 mod kept;
@@ -17,8 +18,10 @@ mod sides;
 mod sizes;
 mod splitting;
 mod stated;
+mod widths;
 
 pub use costs::inner_number;
+pub use entries::Terms;
 pub use homes::home;
 pub use laws::feasible_is_meeting_all_parts;
 pub use objective::{numerator, stated_of};
@@ -28,6 +31,7 @@ pub use records::{Column, Ineq, Model, Row};
 pub use sizes::size;
 pub use splitting::{Split, Unsplit0};
 pub use stated::Stated;
+pub use widths::all_below;
 
 #[cfg(test)]
 mod tests;

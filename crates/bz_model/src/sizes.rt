@@ -1,5 +1,5 @@
 //! How many inequalities each part has.
-ghost use Rattle.std.specs.Prelude.{ℕ, List, ◌≡◌, ◌+◌, ◌*◌, ◌<◌, ◌≤◌, length, if◌then◌else◌};
+ghost use Rattle.std.specs.Prelude.{ℕ, List, ◌≡◌, ◌+◌, ◌*◌, ◌<◌, ◌≤◌, filter, length, if◌then◌else◌};
 ghost use Rattle.std.specs.List.{AllByRecursion, enumerate_from};
 ghost use Rattle.bz_algebra.specs.Sums.{AllBelow};
 ghost use Rattle.bz_model.specs.Limits.{list_limit};
@@ -92,12 +92,33 @@ pub fn size(model: &Model, part: &[u32], b: u32) -> u32
         + sides_of_columns(part, b, model.columns.as_slice())
 }
 
+/// How many of the columns are integers.
+fn count_integers(columns: &[Column]) -> u32
+    requires few { length columns.now < list_limit }
+    ensures value { result ≡ length (filter (λ e. e.1.integer) (enumerate_from 0 columns.now)) }
+    ensures most { result ≤ length columns.now }
+{
+    let mut count = 0;
+    for column in columns {
+        if column.integer {
+            count += 1;
+        }
+    }
+    count
+}
+
 impl Split {
-    /// How many inequalities a part has, two counted for the box of each integer column where it is the master.
+    /// How many inequalities a part has, two counted for the box of each integer column where it is the master. It takes
+    /// no memory.
     pub fn size(&self, part: u32) -> u32
         requires { part ≤ blocks_of self.now.part }
         ensures { result ≡ size_of self.now.model self.now.part part }
     {
-        size(self.model(), self.part(), part)
+        let count = self.inequalities(part).len() as u32;
+        if part == 0 {
+            count + 2 * count_integers(self.model().columns.as_slice())
+        } else {
+            count
+        }
     }
 }

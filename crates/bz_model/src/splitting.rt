@@ -1,14 +1,17 @@
 //! Splits: a model with a strict partition of its columns, and the inequalities of each part.
-ghost use Rattle.std.specs.Prelude.{◌≡◌, ◌≤◌, IfErr, IfOk};
+ghost use Rattle.std.specs.Prelude.{◌≡◌, ◌<◌, ◌≤◌, IfErr, IfOk};
 ghost use Rattle.std.specs.List.{AllByRecursion};
+ghost use Rattle.bz_model.specs.Entries.{IsEntriesAt, width_at};
 ghost use Rattle.bz_model.specs.Parting.{blocks_of, columns_of, homes_of, inequalities_of};
+ghost use Rattle.bz_model.specs.Rows.{terms_at};
 ghost use Rattle.bz_model.specs.Splits.{FitsPart, IsSplit};
 ghost use Rattle.bz_model.specs.Strict.{HasItsColumns, IsPartition, IsStrict};
 
+use crate::entries::{Terms, entries_in};
 use crate::kept::{Kept, keep};
 use crate::records;
 use crate::records::Ineq;
-use bz_num::Items;
+use bz_num::{Items, SparseRow};
 use std::alloc::Global;
 use std::marker;
 
@@ -60,13 +63,6 @@ impl Split {
         &self.model
     }
 
-    /// The part of each column.
-    pub(crate) fn part(&self) -> &[u32]
-        ensures { result.now ≡ self.now.part }
-    {
-        self.part.as_slice()
-    }
-
     /// The number of blocks. It takes no memory.
     pub fn blocks(&self) -> u32
         ensures value { result ≡ blocks_of self.now.part }
@@ -101,5 +97,14 @@ impl Split {
         ensures fits { AllByRecursion (FitsPart self.now.part part) result.now }
     {
         self.kept.inequalities[part as usize].as_slice()
+    }
+    /// What the inequalities of a part have at a position of the part or of the master, by their places in the part's
+    /// list. It takes no memory.
+    pub fn entries_at(&self, part: u32, which: Terms, position: u32) -> &SparseRow
+        requires part { part ≤ blocks_of self.now.part }
+        requires position { position < width_at which self.now.part part }
+        ensures { IsEntriesAt (terms_at which (inequalities_of self.now.model self.now.part part)) position result.now }
+    {
+        entries_in(&self.kept.entries.as_slice()[part as usize], which, position)
     }
 }

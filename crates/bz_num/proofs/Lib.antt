@@ -16,3 +16,4 @@ pub mod Quotients
 pub mod Reduces
 pub mod Rounding
 pub mod Rows
+pub mod SparseSums

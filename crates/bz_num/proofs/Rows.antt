@@ -59,7 +59,7 @@ coef-missing j (e ∷ es) d none =
 cmp-rises : (a b c : ℕ) → a ≤ b → ordering_index (nat_cmp a c) ≤ ordering_index (nat_cmp b c)
 cmp-rises a b c up = grind (arith, nat_tests)
 
-equal-columns : (a b : ℕ) → nat_cmp a b ≡ Equal → a ≡ b
+pub equal-columns : (a b : ℕ) → nat_cmp a b ≡ Equal → a ≡ b
 equal-columns a b h = grind (arith, nat_tests)
 
 less-columns : (a b : ℕ) → nat_cmp a b ≡ Less → a ≡ b → ⊥
@@ -76,14 +76,17 @@ coef-found j es xs i d h same range found =
     coef-at 0 j es i d h inside (equal-columns _ _ at)
 
 -- a binary search for the column did not find it
+pub nowhere : (j : ℕ) (es : List (ℕ × ℤ)) (i : ℕ) → IsSparse es → IsBinarySearchResult (λ (y : ℕ × ℤ). nat_cmp y.0 j) es (Err i) → (k : ℕ) → k < length es → (get_or es k (0, pos 0)).0 ≡ j → ⊥
+nowhere j es i h found k inside same =
+    let parts = found (λ a b d up inside. cmp-rises (get_or es a d).0 (get_or es b d).0 j (columns-rise 0 es a b d h up inside)) in
+    let low : k < i → ⊥ = λ before. less-columns _ _ (parts.0 k (0, pos 0) (omega arith) before) same in
+    let high : i ≤ k → ⊥ = λ after. greater-columns _ _ (parts.1 k (0, pos 0) after inside) same in
+    omega arith
+
 pub coef-not_found : (j : ℕ) (es xs : List (ℕ × ℤ)) (i : ℕ) → IsSparse es → xs ≡ es → IsBinarySearchResult (λ (y : ℕ × ℤ). nat_cmp y.0 j) xs (Err i) → coef es j ≡ pos 0
 coef-not_found j es xs i h same answer =
     let found : IsBinarySearchResult (λ (y : ℕ × ℤ). nat_cmp y.0 j) es (Err i) = rw same at answer in
-    let parts = found (λ a b d up inside. cmp-rises (get_or es a d).0 (get_or es b d).0 j (columns-rise 0 es a b d h up inside)) in
-    coef-missing j es (0, pos 0) (λ k inside same.
-    let low : k < i → ⊥ = λ before. less-columns _ _ (parts.0 k (0, pos 0) (omega arith) before) same in
-    let high : i ≤ k → ⊥ = λ after. greater-columns _ _ (parts.1 k (0, pos 0) after inside) same in
-    omega arith)
+    coef-missing j es (0, pos 0) (nowhere j es i h found)
 
 -- the column at a place of a row whose columns are below n
 pub below_at : (n : ℕ) (es : List (ℕ × ℤ)) (i : ℕ) (d : ℕ × ℤ) → AllBelow n es → i < length es → (get_or es i d).0 < n

@@ -6,3 +6,4 @@ pub mod Lowest
 pub mod Primitive
 pub mod Rounding
 pub mod Row
+pub mod SparseSums

@@ -14,6 +14,7 @@ mod narrow;
 mod products;
 mod reduce;
 mod row;
+mod sparse_sums;
 mod sums;
 
 pub use compare::{cmp_frac, cmp_quotients};
@@ -28,6 +29,7 @@ pub use narrow::{narrow_difference, narrow_negation, narrow_product, narrow_sum}
 pub use products::{Folding, WideSum, fold};
 pub use reduce::primitive;
 pub use row::SparseRow;
+pub use sparse_sums::sparse_sum;
 pub use sums::{Numbers, row_sum, sum_at};
 
 #[cfg(test)]

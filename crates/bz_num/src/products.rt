@@ -58,6 +58,22 @@ impl Folding {
         Ok(())
     }
 
+    /// Takes so many pairs of the product 0.
+    pub fn pass(&mut self, pairs: usize)
+        requires { self.old.count + pairs < 2 ^ 64 }
+        ensures { self.new ≡ record { sum = self.old.sum; count = self.old.count + pairs } }
+    {
+        self.count += pairs;
+    }
+
+    /// The number of pairs taken.
+    pub fn count(&self) -> usize
+        ensures value { result ≡ self.now.count }
+        ensures narrow { IsNarrow self.now.sum }
+    {
+        self.count
+    }
+
     /// The sum of the products taken.
     pub fn sum(&self) -> i128
         ensures value { result ≡ self.now.sum }

@@ -6,6 +6,7 @@ use Rattle.std.specs.List.{AllByRecursion, enumerate_from}
 use Rattle.bz_model.specs.declared.records.Column.{Column}
 use Rattle.bz_model.specs.declared.records.Model.{Model}
 use Rattle.bz_model.specs.declared.records.Row.{Row}
+use Rattle.bz_model.specs.Limits.{size_limit}
 use Rattle.bz_model.specs.Parting.{part_of, blocks_of}
 use Rattle.bz_model.specs.Strict.{AreStrictColumns, AreUnjoined, IsInOneBlock, IsStrictColumn, size_of}
 use Rattle.bz_split.specs.declared.faults.SplitFault.{SplitFault}
@@ -66,8 +67,8 @@ pub record IsFirstLarge (m : Model) (part : List ℕ) (b size : ℕ) : Type 0 wh
   pub rows : AreUnjoined m part
   pub columns : AreStrictColumns m part
   pub there : b ≤ blocks_of part
-  pub others : (k : ℕ) → k < b → size_of m part k ≤ 1024
-  pub large : 1024 < size
+  pub others : (k : ℕ) → k < b → size_of m part k ≤ size_limit
+  pub large : size_limit < size
   pub size_is : size ≡ size_of m part b
 
 -- the model may not be solved by the partition, for this reason

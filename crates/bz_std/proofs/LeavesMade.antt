@@ -29,6 +29,16 @@ use Rattle.bz_std.proofs.Moved.{coef_moved, coef_moved_before, coef_ones, coef_o
 use Rattle.bz_std.proofs.PosedTasks.{IsSide, sides_fit}
 use Rattle.bz_std.proofs.RowSums.{made_sum, master_below}
 
+-- ---- the cost of a node
+module _ (m : Model) (part : List ℕ) (d : IsDecomposed m part) where
+  pub cost_on_master : (i : ℕ) → i < width_of part 0 → coef (node_cost m part mode.Cost) i ≡ coef (terms_in part 0 (inner_cost m)) i
+  cost_on_master i l = coef_append (terms_in part 0 (inner_cost m)) (ones (width_of part 0) (blocks_of part)) i ∙ rw (coef_ones_before (width_of part 0) (blocks_of part) i l) (add_zero (coef (terms_in part 0 (inner_cost m)) i))
+
+  -- at the eta of a block
+  pub cost_on_eta : (b : ℕ) → b < blocks_of part → coef (node_cost m part mode.Cost) (width_of part 0 + b) ≡ pos 1
+  cost_on_eta b l = coef_append (terms_in part 0 (inner_cost m)) (ones (width_of part 0) (blocks_of part)) (width_of part 0 + b)
+      ∙ rw (coef_beyond (width_of part 0) (terms_in part 0 (inner_cost m)) (width_of part 0 + b) (cost_terms_within m part 0 d) (omega arith), coef_ones (width_of part 0) (blocks_of part) (width_of part 0 + b) (omega arith) (omega arith)) refl
+
 module _ (m : Model) (part : List ℕ) (d : IsDecomposed m part) (box : Box) (cuts : List Cut) (of_split : AllByRecursion (IsCutOfSplit part) cuts) where
   abbrev sides : List Ineq
   sides = sides_of m part box cuts
@@ -54,14 +64,6 @@ module _ (m : Model) (part : List ℕ) (d : IsDecomposed m part) (box : Box) (cu
   right_sum : (way : Mode) (y : ℕ → ℤ) → sum_right (node m part box cuts way) y ≡ upto (length sides) (λ n. y n *ℤ rhs_at sides n)
   right_sum way y = made_sum (side_line width) sides y (λ terms rhs. rhs) (λ own master rhs. rhs) (λ i. refl)
 
-  -- ---- its cost
-  cost_on_master : (i : ℕ) → i < width → coef (node_cost m part mode.Cost) i ≡ coef (terms_in part 0 (inner_cost m)) i
-  cost_on_master i l = coef_append (terms_in part 0 (inner_cost m)) (ones width (blocks_of part)) i ∙ rw (coef_ones_before width (blocks_of part) i l) (add_zero (coef (terms_in part 0 (inner_cost m)) i))
-
-  cost_on_eta : (b : ℕ) → b < blocks_of part → coef (node_cost m part mode.Cost) (width + b) ≡ pos 1
-  cost_on_eta b l = coef_append (terms_in part 0 (inner_cost m)) (ones width (blocks_of part)) (width + b)
-      ∙ rw (coef_beyond width (terms_in part 0 (inner_cost m)) (width + b) (cost_terms_within m part 0 d) (omega arith), coef_ones width (blocks_of part) (width + b) (omega arith) (omega arith)) refl
-
   -- ---- the leaf
   module _ (way : Mode) (y : ℕ → ℤ) (c : ℤ) (leaf : Leaf) (l : IsLeafFrom (node m part box cuts way) y c leaf) where
     entries : AreEntries (length sides) y leaf.lambda
@@ -76,8 +78,8 @@ module _ (m : Model) (part : List ℕ) (d : IsDecomposed m part) (box : Box) (cu
     leaf_holds h k balanced below = record {
       lambda = entries_are_multipliers (length sides) y h leaf.lambda entries;
       delta = rw l.delta k;
-      master = λ i b. sums (λ n. coef (master_at sides n) i) ∙ sym (on_master way y i b) ∙ balanced i (omega arith) ∙ rw (l.delta, cost_on_master i b) refl;
-      etas = λ b u. sums (λ n. coef (own_at sides n) b) ∙ sym (on_eta way y b) ∙ balanced (width + b) (omega arith) ∙ rw (l.delta, cost_on_eta b u) (ap neg_ℤ (mul_one c));
+      master = λ i b. sums (λ n. coef (master_at sides n) i) ∙ sym (on_master way y i b) ∙ balanced i (omega arith) ∙ rw (l.delta, cost_on_master m part d i b) refl;
+      etas = λ b u. sums (λ n. coef (own_at sides n) b) ∙ sym (on_eta way y b) ∙ balanced (width + b) (omega arith) ∙ rw (l.delta, cost_on_eta m part d b u) (ap neg_ℤ (mul_one c));
       rhs = sums (rhs_at sides) ∙ sym (right_sum way y) ∙ sym (neg_neg (sum_right (node m part box cuts way) y)) ∙ ap neg_ℤ (sym l.bound);
       empty = λ z. rw l.bound (omega (arith, ints, below (sym l.delta ∙ z)));
     }

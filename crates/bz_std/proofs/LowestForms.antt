@@ -30,6 +30,7 @@ use Rattle.bz_std.specs.Meanings.{MeetsWithin}
 use Rattle.bz_std.specs.Tasks.{IsCutOfSplit, cost_lines, moved, node, own_line, right_pairs, separation, side_line}
 use Rattle.bz_std.proofs.CutsMade.{right_of}
 use Rattle.bz_std.proofs.ListFacts.{all_from_mapped, coordinate_back, coordinate_front}
+use Rattle.bz_std.proofs.MeetingSides.{SideHolds, met_by_sides}
 use Rattle.bz_std.proofs.NodeFloors.{dot_moved}
 use Rattle.bz_std.proofs.PosedTasks.{IsSide, part_fits, sides_fit}
 
@@ -93,50 +94,16 @@ module _ (m : Model) (part : List ℕ) (s : IsDecomposed m part) (box : Box) (cu
   at_eta : (k : ℕ) → k < blocks_of part → v (width + k) ≡ l.times *ℤ coordinate point.eta k
   at_eta k b = sym (l.values_are (width + k) (omega arith)) ∙ ap (λ (t : ℤ). l.times *ℤ t) (coordinate_back point.x point.eta (width + k) k (omega (arith, x_count)))
 
-  -- the side holds at the point
-  Holds : Ineq → Type 0
-  Holds i = (dot i.master (coordinate point.x) +ℤ dot i.own (coordinate point.eta)) ≤ℤ (i.rhs *ℤ point.den)
-
   left : (i : Ineq) → IsSide m part s i → dot (side_line width i).terms v ≡ l.times *ℤ (dot i.master (coordinate point.x) +ℤ dot i.own (coordinate point.eta))
   left i f = dot_append i.master (moved width i.own) v
       ∙ rw (dot_moved width i.own v, dot_same_below width i.master v (λ j. l.times *ℤ coordinate point.x j) f.master at_position, dot_same_below (blocks_of part) i.own (λ k. v (width + k)) (λ k. l.times *ℤ coordinate point.eta k) f.own at_eta, dot_scale i.master l.times (coordinate point.x), dot_scale i.own l.times (coordinate point.eta))
       (sym (mul_add l.times (dot i.master (coordinate point.x)) (dot i.own (coordinate point.eta))))
 
-  sides_hold : (way : Mode) → MeetsWithin (node m part box cuts way) v den (pos 0) → AllByRecursion Holds (sides_of m part box cuts)
-  unfolding Holds
-  sides_hold way h = all_both _ _ Holds (sides_of m part box cuts) (sides_fit m part s box cuts of_split)
+  sides_hold : (way : Mode) → MeetsWithin (node m part box cuts way) v den (pos 0) → AllByRecursion (SideHolds point) (sides_of m part box cuts)
+  unfolding SideHolds
+  sides_hold way h = all_both _ _ (SideHolds point) (sides_of m part box cuts) (sides_fit m part s box cuts of_split)
       (all_from_mapped (λ row. (dot row.terms v) ≤ℤ ((row.rhs *ℤ den) +ℤ (pos 0))) (side_line width) (sides_of m part box cuts) h)
       (λ i f k. within (width + blocks_of part) den v point.den (point.x ++ point.eta) l _ i.rhs (subst (λ (t : ℤ). t ≤ℤ ((i.rhs *ℤ den) +ℤ (pos 0))) (left i f) k))
 
-  abbrev of_master : List Ineq
-  of_master = map side_of_master (inequalities_of m part 0)
-
-  abbrev of_box : List Ineq
-  of_box = flat_map (sides_of_box part box) (enumerate_from 0 (integers_of m))
-
-  abbrev of_cuts : List Ineq
-  of_cuts = map side_of_cut cuts
-
-  no_cut : (cut : Cut) → Holds (side_of_cut cut) → ¬ CutsOff cut point
-  unfolding Holds
-  no_cut cut h k = omega (arith, ints, h, k, neg_mul cut.p0 (coordinate point.eta (cut.block - 1)))
-
   pub node_met : (way : Mode) → MeetsWithin (node m part box cuts way) v den (pos 0) → MeetsNode m part box cuts point
-  unfolding Holds
-  node_met way h =
-      let all = sides_hold way h in
-      let front = all_front Holds (of_master ++ of_box) of_cuts all in
-      record {
-        rows = all_then (λ i. Holds (side_of_master i)) (HoldsInMaster point) (inequalities_of m part 0)
-            (all_from_mapped Holds side_of_master (inequalities_of m part 0) (all_front Holds of_master of_box front))
-            (λ i k. omega (arith, ints, k));
-        ends = all_then (λ e. AllByRecursion Holds (sides_of_box part box e)) (IsWithinEnds part box point) (enumerate_from 0 (integers_of m))
-            (all_from_flat Holds (sides_of_box part box) (enumerate_from 0 (integers_of m)) (all_back Holds of_master of_box front))
-            (λ e k. record {
-              at_least = omega (arith, ints, k.1.0, neg_mul (coordinate box.lower e.0) point.den);
-              at_most = omega (arith, ints, k.0);
-            });
-        kept = all_then (λ cut. Holds (side_of_cut cut)) (λ cut. ¬ CutsOff cut point) cuts
-            (all_from_mapped Holds side_of_cut cuts (all_back Holds (of_master ++ of_box) of_cuts all))
-            no_cut;
-      }
+  node_met way h = met_by_sides m part box cuts point (sides_hold way h)

@@ -79,6 +79,12 @@ module _ (m : Model) (part : List ℕ) (d : IsDecomposed m part) where
     pub own : AllBelow (blocks_of part) i.own
     pub master : AllBelow (width_of part 0) i.master
 
+  pub node_cost_below : (way : Mode) → AllBelow (width_of part 0 + blocks_of part) (node_cost m part way)
+  node_cost_below mode.Cost = below_append (width_of part 0 + blocks_of part) (terms_in part 0 (inner_cost m)) (ones (width_of part 0) (blocks_of part))
+      (below_more (width_of part 0) _ (terms_in part 0 (inner_cost m)) (cost_terms_within m part 0 d) (omega arith))
+      (ones_below _ (width_of part 0) (blocks_of part) (omega arith))
+  node_cost_below mode.Point = tt
+
   module _ (box : Box) (cuts : List Cut) (of_split : AllByRecursion (IsCutOfSplit part) cuts) where
     cut_side : (cut : Cut) → IsCutOfSplit part cut → IsSide (side_of_cut cut)
     cut_side cut c = let l : 0 < cut.block = c.first in let u : cut.block ≤ blocks_of part = c.last in record { own = (omega arith, tt); master = c.alpha }
@@ -92,12 +98,6 @@ module _ (m : Model) (part : List ℕ) (d : IsDecomposed m part) where
 
     abbrev OfNode : Line → Type 0
     OfNode row = AllBelow (width_of part 0 + blocks_of part) row.terms
-
-    node_cost_below : (way : Mode) → AllBelow (width_of part 0 + blocks_of part) (node_cost m part way)
-    node_cost_below mode.Cost = below_append (width_of part 0 + blocks_of part) (terms_in part 0 (inner_cost m)) (ones (width_of part 0) (blocks_of part))
-        (below_more (width_of part 0) _ (terms_in part 0 (inner_cost m)) (cost_terms_within m part 0 d) (omega arith))
-        (ones_below _ (width_of part 0) (blocks_of part) (omega arith))
-    node_cost_below mode.Point = tt
 
     pub node_posed : (way : Mode) → IsPosed (node m part box cuts way)
     node_posed way = record {

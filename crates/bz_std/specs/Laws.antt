@@ -48,13 +48,15 @@ pub record AnswersCross : Type 0 where
       IsRay (program_of lp) basis column z d → IsFallAlong q (differences (entry d))
 
 -- Which programs have a point. Multipliers that show that there is none are right, and so is a least rise above 0; one
--- of 0 is a point's. A least cost is least.
+-- of 0 is a point's. A least rise is least: no point passes each right side by less. A least cost is least.
 pub record PointsAreDecided : Type 0 where
   pub empty : (q : Posed) (y : ℕ → ℤ) → IsPosed q → IsEmptyBy q y → ¬ IsPossible q
   pub rises : (q : Posed) (v : ℕ → ℤ) (s den : ℤ) (y : ℕ → ℤ) (by : ℤ) → IsPosed q → IsLeastRise q v s den y by →
       (pos 0) <ℤ s → ¬ IsPossible q
   pub stands : (q : Posed) (v : ℕ → ℤ) (s den : ℤ) (y : ℕ → ℤ) (by : ℤ) → IsLeastRise q v s den y by →
       s ≡ pos 0 → MeetsWithin q v den (pos 0)
+  pub rise_is_least : (q : Posed) (v : ℕ → ℤ) (s den : ℤ) (y : ℕ → ℤ) (by : ℤ) (w : ℕ → ℤ) (d t : ℤ) → IsPosed q →
+      IsLeastRise q v s den y by → (pos 0) <ℤ d → (pos 0) ≤ℤ t → MeetsWithin q w d t → (s *ℤ d) ≤ℤ (t *ℤ den)
   pub least : (q : Posed) (v : ℕ → ℤ) (den : ℤ) (y : ℕ → ℤ) (by : ℤ) (other : IsPossible q) → IsPosed q →
       IsLeastAt q v den y by → (dot q.cost v *ℤ other.den) ≤ℤ (dot q.cost other.v *ℤ den)
 

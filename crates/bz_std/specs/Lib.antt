@@ -1,3 +1,4 @@
+pub mod Compared
 pub mod CutsFrom
 pub mod CutsOfBases
 pub mod Fitting
@@ -13,3 +14,4 @@ pub mod OneRow
 pub mod Posed
 pub mod Stops
 pub mod Tasks
+pub mod Told

@@ -30,6 +30,10 @@ use Rattle.bz_std.specs.Tasks.{node}
 abbrev pub AreNonnegativeTo : ℕ → (ℕ → ℤ) → Type 0
 AreNonnegativeTo n y = (i : ℕ) → i < n → (pos 0) ≤ℤ (y i)
 
+-- none of the first numbers of y, which are multipliers of block b's inequalities, is negative
+abbrev pub AreBlockMultipliers : Model → List ℕ → ℕ → (ℕ → ℤ) → Type 0
+AreBlockMultipliers m part b y = AreNonnegativeTo (length (inequalities_of m part b)) y
+
 -- ---- cuts
 -- what the inequalities say of a position of the master, each times its multiplier
 abbrev pub master_sum : List (ℕ × ℤ) → List Ineq → ℕ → ℤ
@@ -110,8 +114,8 @@ pub record WideCutsDoNotFit : Type 0 where
       ¬ HasNarrowCutSums m part b mu → ¬ FitsCut m part (bare b mu raw h)
 
 -- ---- leaves
--- the leaf has the multipliers y without zeros, `by` for its delta, and for its bound their sum of the right sides with the
--- other sign, in which nothing is wide
+-- the leaf has the multipliers y without zeros, `by` for its delta, and for its bound their sum of the right sides with
+-- the other sign, in which nothing is wide
 pub record IsLeafOfLines (lines : List Line) (y : ℕ → ℤ) (by : ℤ) (leaf : Leaf) : Type 0 where
   pub lambda : AreEntries (length lines) y leaf.lambda
   pub delta : leaf.delta ≡ by

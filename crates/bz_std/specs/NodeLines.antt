@@ -1,13 +1,17 @@
 -- The rows of a node's program, by where they come from.
-use Rattle.std.specs.Prelude.{ℕ, ℤ, pos, negsuc, List, [], ◌∷◌, map}
+use Rattle.std.specs.Prelude.{ℕ, ℤ, pos, negsuc, List, [], ◌∷◌, ◌++◌, map}
 use Rattle.std.specs.List.{enumerate_from, flat_map}
 use Rattle.std.proofs.Math.IntN.{neg_ℤ}
 use Rattle.bz_model.specs.declared.Ineq.{Ineq}
+use Rattle.bz_model.specs.declared.Model.{Model}
+use Rattle.bz_model.specs.Parting.{inequalities_of, width_of}
 use Rattle.bz_cut.specs.declared.Cut.{Cut}
 use Rattle.bz_tree.specs.Boxes.{Box}
+use Rattle.bz_tree.specs.Integers.{positions_of}
 use Rattle.bz_tree.specs.Leaves.{side_of_cut, side_of_master}
 use Rattle.bz_tree.specs.LeafSides.{sides_at}
-use Rattle.bz_std.specs.Posed.{Line}
+use Rattle.bz_tableau.specs.declared.programs.LpRow.{LpRow}
+use Rattle.bz_std.specs.Posed.{AreAdded, Line}
 use Rattle.bz_std.specs.Tasks.{side_line}
 
 -- those of the master's inequalities, over n positions
@@ -32,3 +36,12 @@ ends_lines n positions lower upper = box_lines n positions (record { lower = low
 -- those of the cuts
 abbrev pub cut_lines : ℕ → List Cut → List Line
 cut_lines n cuts = map (side_line n) (map side_of_cut cuts)
+
+-- the new rows are the old ones, followed by those of the box with these ends
+abbrev pub AreEndsAdded : List LpRow → List LpRow → ℕ → List ℕ → List ℤ → List ℤ → Type 0
+AreEndsAdded old new n positions lower upper = AreAdded old new (ends_lines n positions lower upper)
+
+-- those of the master's inequalities, and then those of the box
+abbrev pub side_lines : Model → List ℕ → Box → List Line
+side_lines m part box =
+    master_lines (width_of part 0) (inequalities_of m part 0) ++ box_lines (width_of part 0) (positions_of m part) box

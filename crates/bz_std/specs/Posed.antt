@@ -22,6 +22,10 @@ pub record IsPosed (q : Posed) : Type 0 where
   pub rows : AllByRecursion (λ row. AllBelow q.variables row.terms) q.rows
   pub cost : AllBelow q.variables q.cost
 
+-- the two columns of a variable with this number
+abbrev pub pair_of : ℕ → ℤ → List (ℕ × ℤ)
+pair_of variable number = (2 * variable, number) ∷ (2 * variable + 1, neg_ℤ number) ∷ []
+
 -- Variable j is the difference of two columns that aren't negative: of column 2 j and of the next one.
 abbrev pub over_columns : List (ℕ × ℤ) → List (ℕ × ℤ)
 over_columns [] = []

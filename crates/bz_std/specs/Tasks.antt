@@ -17,7 +17,8 @@ use Rattle.bz_cut.specs.declared.Mode.TheVariants as mode
 use Rattle.bz_tree.specs.Boxes.{Box}
 use Rattle.bz_tree.specs.Leaves.{sides_of}
 use Rattle.bz_tableau.specs.declared.programs.Lp.{Lp}
-use Rattle.bz_std.specs.Posed.{IsProgramOf, Line, Posed}
+use Rattle.bz_tableau.specs.declared.programs.LpRow.{LpRow}
+use Rattle.bz_std.specs.Posed.{AreAdded, IsProgramOf, Line, Posed, over_columns}
 
 -- ---- separation: is there a completion of the master's point x / den in the block, at a cost of at most its eta?
 
@@ -37,6 +38,10 @@ cost_line m part point b = record { terms = terms_in part b (inner_cost m); rhs 
 abbrev pub cost_lines : Model → List ℕ → Master → ℕ → Mode → List Line
 cost_lines m part point b mode.Cost = cost_line m part point b ∷ []
 cost_lines m part point b mode.Point = []
+
+-- the new rows are the old ones, followed by that line's where it is one of the program's
+abbrev pub IsCostAdded : Model → List ℕ → Master → ℕ → Mode → List LpRow → List LpRow → Type 0
+IsCostAdded m part point b mode old new = AreAdded old new (cost_lines m part point b mode)
 
 -- The separation program of block b: its variables are den times the block's positions. It has no cost.
 abbrev pub separation : Model → List ℕ → Master → ℕ → Mode → Posed
@@ -85,14 +90,28 @@ abbrev pub node_cost : Model → List ℕ → Mode → List (ℕ × ℤ)
 node_cost m part mode.Cost = terms_in part 0 (inner_cost m) ++ ones (width_of part 0) (blocks_of part)
 node_cost m part mode.Point = []
 
--- The node program of a box and cuts. Its variables are the master's positions and then the etas of the blocks; its rows
--- are the sides that a leaf's multipliers are numbered by.
+-- The node program of a box and cuts. Its variables are the master's positions and then the etas of the blocks; its
+-- rows are the sides that a leaf's multipliers are numbered by.
 abbrev pub node : Model → List ℕ → Box → List Cut → Mode → Posed
 node m part box cuts mode = record {
   variables = width_of part 0 + blocks_of part;
   rows = map (side_line (width_of part 0)) (sides_of m part box cuts);
   cost = node_cost m part mode;
 }
+
+-- the program of a node
+abbrev pub IsNodeLp : Model → List ℕ → Box → List Cut → Mode → Lp → Type 0
+IsNodeLp m part box cuts mode lp = IsProgramOf (node m part box cuts mode) lp
+
+-- ---- costs over columns
+
+-- the row is the cost of a part over columns
+abbrev pub IsPartCost : Model → List ℕ → ℕ → List (ℕ × ℤ) → Type 0
+IsPartCost m part b row = row ≡ over_columns (terms_in part b (inner_cost m))
+
+-- the row is the cost of a node over columns
+abbrev pub IsNodeCost : Model → List ℕ → Mode → List (ℕ × ℤ) → Type 0
+IsNodeCost m part mode row = row ≡ over_columns (node_cost m part mode)
 
 -- ---- what a task's lists fit
 

@@ -1,12 +1,11 @@
 //! Rows over two columns for each variable, which is the first less the second: variable j has the columns 2 j and
 //! 2 j + 1.
 ghost use Rattle.std.specs.Prelude.{◌≡◌, ◌<◌, ◌*◌, ◌+◌, ◌++◌, ◌∷◌, [], IfOk, OnOk};
-ghost use Rattle.std.proofs.Math.IntN.{neg_ℤ};
 ghost use Rattle.bz_algebra.specs.Numbers.{IsNarrow};
 ghost use Rattle.bz_algebra.specs.Sums.{AllBelow};
 ghost use Rattle.bz_num.specs.Row.{entry_at};
 ghost use Rattle.bz_model.specs.Limits.{list_limit};
-ghost use Rattle.bz_std.specs.Posed.{over_columns};
+ghost use Rattle.bz_std.specs.Posed.{over_columns, pair_of};
 
 use bz_num::{OutOfMemory, SparseRow, narrow_negation};
 use bz_tableau::LpRow;
@@ -16,7 +15,7 @@ use std::alloc::{AllocError, Global};
 fn push_pair(entries: &mut Vec<(u32, i128)>, variable: u32, number: i128) -> Result<(), AllocError>
     requires few { variable < list_limit }
     requires narrow { IsNarrow number }
-    ensures { OnOk result (entries.new.items ≡ entries.old.items ++ (2 * variable, number) ∷ (2 * variable + 1, neg_ℤ number) ∷ []) }
+    ensures { OnOk result (entries.new.items ≡ entries.old.items ++ pair_of variable number) }
 {
     entries.push((2 * variable, number))?;
     entries.push((2 * variable + 1, narrow_negation(number)))?;

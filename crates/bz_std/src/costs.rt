@@ -1,8 +1,8 @@
 //! The cost of a part over columns.
-ghost use Rattle.std.specs.Prelude.{◌≡◌, ◌≤◌, ◌*◌, IfOk};
+ghost use Rattle.std.specs.Prelude.{◌≤◌, ◌*◌, IfOk};
 ghost use Rattle.bz_algebra.specs.Sums.{AllBelow};
-ghost use Rattle.bz_model.specs.Parting.{blocks_of, inner_cost, terms_in, width_of};
-ghost use Rattle.bz_std.specs.Posed.{over_columns};
+ghost use Rattle.bz_model.specs.Parting.{blocks_of, width_of};
+ghost use Rattle.bz_std.specs.Tasks.{IsPartCost};
 
 use crate::columns::push_variable;
 use bz_model::Split;
@@ -16,7 +16,7 @@ pub(crate) fn cost_over_columns(
     part: u32,
 ) -> Result<SparseRow, OutOfMemory>
     requires { part ≤ blocks_of split.now.part }
-    ensures value { IfOk result (λ row. row ≡ over_columns (terms_in split.now.part part (inner_cost split.now.model))) }
+    ensures value { IfOk result (IsPartCost split.now.model split.now.part part) }
     ensures below { IfOk result (AllBelow (2 * width_of split.now.part part)) }
 {
     let mut row = SparseRow::from_vec(Vec::new(alloc));

@@ -5,7 +5,7 @@ ghost use Rattle.bz_num.specs.Dense.{AreNarrow, entry};
 ghost use Rattle.bz_model.specs.Parting.{blocks_of, inequalities_of};
 ghost use Rattle.bz_cut.specs.Rows.{AreMultipliers};
 ghost use Rattle.bz_std.specs.CutsFrom.{IsCutFrom, IsNoCut};
-ghost use Rattle.bz_std.specs.Making.{AreNarrowBelow, AreNonnegativeTo, AreRawNumbers, HasNarrowCutSums, HasNarrowSums};
+ghost use Rattle.bz_std.specs.Making.{AreBlockMultipliers, AreNarrowBelow, AreRawNumbers, HasNarrowCutSums, HasNarrowSums};
 ghost use Rattle.bz_std.specs.Making.{HasSome, IsCutOfNumbers, StopsCut, StopsSums, WideCutsDoNotFit, master_sum};
 ghost use Rattle.bz_std.specs.NumberLists.{HasNumbers};
 
@@ -100,7 +100,7 @@ pub fn made_cut(
 ) -> Result<Cut, MakeStop>
     requires last { block ≤ blocks_of split.now.part }
     requires inside { length (inequalities_of split.now.model split.now.part block) ≤ length y.now }
-    requires multipliers { AreNonnegativeTo (length (inequalities_of split.now.model split.now.part block)) (entry y.now) }
+    requires multipliers { AreBlockMultipliers split.now.model split.now.part block (entry y.now) }
     requires nonnegative { pos 0 ≤ℤ raw }
     requires some { IsNoCut split.now.model split.now.part block (entry y.now) raw → ⊥ }
     ensures cut { IfOk result (IsCutFrom split.now.model split.now.part block (entry y.now) raw) }

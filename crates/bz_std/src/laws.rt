@@ -1,5 +1,6 @@
 //! What is proved of the programs of a split.
 ghost use Rattle.bz_std.specs.Laws.{AnswersCross, CutsAreOfBases, CutsAreValid, FloorsHaveOneEnd, LeavesAreRight, LowestFormsMeet, NodesNeverFall, OneLowestForm, PointsAreDecided, SeparationsCutOff, TasksArePosed};
+ghost use Rattle.bz_std.specs.Told.{NodesAreTold, OnePosed};
 
 /// What an answer says of the columns of a program, it says of the variables that they stand for.
 pub fn answers_cross()
@@ -7,7 +8,8 @@ pub fn answers_cross()
 {}
 
 /// Multipliers that leave no variable and a right side below 0 show that a program has no point; a least rise above 0
-/// shows it too, and one of 0 comes with a point. No point costs less than a least one.
+/// shows it too, and one of 0 comes with a point. No point rises less than a least rise, or costs less than a least
+/// cost.
 pub fn points_are_decided()
     ensures { PointsAreDecided }
 {}
@@ -56,4 +58,14 @@ pub fn lowest_forms_meet()
 /// Numbers over a positive denominator have exactly one lowest form.
 pub fn one_lowest_form()
     ensures { OneLowestForm }
+{}
+
+/// A program over columns stands for one program over variables at most.
+pub fn one_posed()
+    ensures { OnePosed }
+{}
+
+/// Two nodes with the same program have the same leaves, the same points and, where there is a block, the same mode.
+pub fn programs_tell_nodes()
+    ensures { NodesAreTold }
 {}

@@ -5,8 +5,11 @@
 #![tactic(auto)]
 
 mod columns;
+mod comparison;
+mod cost_comparison;
 mod costs;
 mod cuts;
+mod fitting;
 mod floors;
 mod laws;
 mod leaves;
@@ -14,16 +17,19 @@ mod making;
 mod multipliers;
 mod nodes;
 mod reduction;
+mod row_comparison;
 mod separation;
 mod stops;
 mod variables;
 
+pub use comparison::{is_floor_lp, is_node_lp, is_separation_lp};
 pub use cuts::{made_cut, wide_cuts_do_not_fit};
+pub use fitting::fitting_cut;
 pub use floors::floor_lp;
 pub use laws::{
     answers_cross, cuts_are_of_bases, floors_have_one_end, lowest_forms_meet, made_cuts_are_valid,
-    made_leaves_hold, nodes_never_fall, one_lowest_form, points_are_decided, separations_cut_off,
-    tasks_are_posed,
+    made_leaves_hold, nodes_never_fall, one_lowest_form, one_posed, points_are_decided,
+    programs_tell_nodes, separations_cut_off, tasks_are_posed,
 };
 pub use leaves::{made_leaf, wide_leaves_do_not_fit};
 pub use making::MakeStop;

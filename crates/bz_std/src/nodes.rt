@@ -1,5 +1,5 @@
 //! The node program of a box and cuts.
-ghost use Rattle.std.specs.Prelude.{◌≡◌, ◌+◌, ◌<◌, ◌≤◌, ◌++◌, IfOk, OnOk, length, map};
+ghost use Rattle.std.specs.Prelude.{◌≡◌, ◌+◌, ◌<◌, ◌≤◌, IfOk, OnOk, length, map};
 ghost use Rattle.std.specs.List.{AllByRecursion, enumerate_from, flat_map};
 ghost use Rattle.bz_algebra.specs.Numbers.{IsNarrow};
 ghost use Rattle.bz_algebra.specs.Sums.{AllBelow};
@@ -9,9 +9,9 @@ ghost use Rattle.bz_model.specs.Parting.{blocks_of, width_of};
 ghost use Rattle.bz_tableau.specs.Programs.{IsLp};
 ghost use Rattle.bz_tree.specs.Ends.{box_of};
 ghost use Rattle.bz_tree.specs.Leaves.{side_of_cut};
-ghost use Rattle.bz_std.specs.NodeLines.{cut_lines, end_lines, ends_lines, master_lines};
-ghost use Rattle.bz_std.specs.Posed.{AreAdded, IsProgramOf, IsRowOf, over_columns};
-ghost use Rattle.bz_std.specs.Tasks.{IsBoxOf, IsCutOfSplit, node, node_cost, side_line};
+ghost use Rattle.bz_std.specs.NodeLines.{AreEndsAdded, cut_lines, end_lines, master_lines};
+ghost use Rattle.bz_std.specs.Posed.{AreAdded, IsRowOf};
+ghost use Rattle.bz_std.specs.Tasks.{IsBoxOf, IsCutOfSplit, IsNodeCost, IsNodeLp, side_line};
 
 use crate::columns::{push_row, push_variable, row_over_columns};
 use crate::costs::cost_over_columns;
@@ -100,7 +100,7 @@ fn push_box_rows(
     requires uppers { length upper.now ≡ length positions.now }
     requires lower { AllByRecursion IsNarrow lower.now }
     requires upper { AllByRecursion IsNarrow upper.now }
-    ensures { OnOk result (AreAdded rows.old.items rows.new.items (ends_lines width positions.now lower.now upper.now)) }
+    ensures { OnOk result (AreEndsAdded rows.old.items rows.new.items width positions.now lower.now upper.now) }
 {
     for (k, position) in positions.iter().enumerate() {
         push_ends(alloc, *position, lower[k], upper[k], rows)?;
@@ -129,7 +129,7 @@ fn push_cut_rows(
 
 /// The cost of a node's program: in mode Cost the master's, and then 1 for each eta.
 fn cost_of_node(alloc: Global, split: &Split, mode: Mode) -> Result<SparseRow, OutOfMemory>
-    ensures { IfOk result (λ row. row ≡ over_columns (node_cost split.now.model split.now.part mode)) }
+    ensures { IfOk result (IsNodeCost split.now.model split.now.part mode) }
 {
     if mode == Mode::Point {
         return Ok(SparseRow::from_vec(Vec::new(alloc)));
@@ -153,7 +153,7 @@ pub fn node_lp(
     requires region { IsBoxOf split.now.model (box_of region.now) }
     requires cuts { AllByRecursion (IsCutOfSplit split.now.part) cuts.now }
     requires few { length cuts.now + 1024 < list_limit }
-    ensures program { IfOk result (IsProgramOf (node split.now.model split.now.part (box_of region.now) cuts.now mode)) }
+    ensures program { IfOk result (IsNodeLp split.now.model split.now.part (box_of region.now) cuts.now mode) }
     ensures is_lp { IfOk result IsLp }
 {
     let positions = integer_positions(alloc, split)?;

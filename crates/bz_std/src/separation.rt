@@ -8,9 +8,9 @@ ghost use Rattle.bz_num.specs.Fold.{IsNarrowSum, fold_of, goes_wide};
 ghost use Rattle.bz_model.specs.Limits.{list_limit};
 ghost use Rattle.bz_model.specs.Parting.{blocks_of, inequalities_of, width_of};
 ghost use Rattle.bz_tableau.specs.Programs.{IsLp};
-ghost use Rattle.bz_std.specs.Posed.{AreAdded, AreRowsOf, IsRowOf};
+ghost use Rattle.bz_std.specs.Posed.{AreRowsOf, IsRowOf};
 ghost use Rattle.bz_std.specs.Stops.{StopsAtRow, StopsBuilding};
-ghost use Rattle.bz_std.specs.Tasks.{IsMasterOf, IsSeparationLp, cost_line, cost_lines, own_line, right_pairs};
+ghost use Rattle.bz_std.specs.Tasks.{IsCostAdded, IsMasterOf, IsSeparationLp, cost_line, own_line, right_pairs};
 
 use crate::columns::{push_row, row_over_columns};
 use crate::costs::cost_over_columns;
@@ -35,7 +35,7 @@ fn push_less(folding: &mut Folding, number: i128, by: i128) -> Result<(), WideSu
 
 /// What is left of the right side of an inequality at the point, times the point's denominator, or the first wide
 /// place of that sum.
-fn right_side(point: &Master, ineq: &Ineq) -> Result<i128, WideSum>
+pub(crate) fn right_side(point: &Master, ineq: &Ineq) -> Result<i128, WideSum>
     requires { AllBelow (length point.now.x) ineq.now.master }
     ensures value { result ≡ fold_of (right_pairs point.now ineq.now) }
     ensures narrow { IfOk result IsNarrow }
@@ -107,7 +107,7 @@ fn push_cost_row(
     requires first { 0 < block }
     requires last { block ≤ blocks_of split.now.part }
     requires eta { length point.now.eta ≡ blocks_of split.now.part }
-    ensures { OnOk result (AreAdded rows.old.items rows.new.items (cost_lines split.now.model split.now.part point.now block mode)) }
+    ensures { OnOk result (IsCostAdded split.now.model split.now.part point.now block mode rows.old.items rows.new.items) }
 {
     match mode {
         Mode::Cost => {

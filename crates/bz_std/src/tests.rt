@@ -1,17 +1,21 @@
 //! The programs of examples/one.mps: an integer x from 0 to 1 in the master and a y that is at least 0 in block 1, with
 //! the row `2 x + y >= 1` and the cost `2 x + 3 y`. The inequalities of block 1 are the row's, `-2 x - y <= -1`, and the
 //! bound's, `-y <= 0`. A variable v has two columns: it is the first less the second.
-ghost use Rattle.std.specs.Prelude.{◌≡◌, ◌+ℤ◌, ◌<ℤ◌, ◌∷◌, [], IfOk, pos};
+ghost use Rattle.std.specs.Prelude.{◌≡◌, ◌+ℤ◌, ◌<ℤ◌, ◌∷◌, [], IfOk, length, pos};
+ghost use Rattle.std.specs.List.{AllByRecursion};
 ghost use Rattle.bz_algebra.specs.Numbers.{IsNarrow};
 ghost use Rattle.bz_model.specs.Worked.{AreWorkedColumns};
 ghost use Rattle.bz_cut.specs.Worked.{AreLinked};
-ghost use Rattle.bz_std.specs.Tasks.{IsMasterOf};
+ghost use Rattle.bz_std.specs.Tasks.{IsCutOfSplit, IsMasterOf};
 
-use crate::{BuildStop, floor_lp, separation_lp};
-use bz_cut::Mode;
+use crate::{
+    BuildStop, floor_lp, is_floor_lp, is_node_lp, is_separation_lp, node_lp, separation_lp,
+};
+use bz_cut::{Cut, Mode};
 use bz_model::{Column, Master, Model, Row, Split};
 use bz_num::{Frac, Items, Name, OutOfMemory, SparseRow};
 use bz_tableau::{Lp, WideAt};
+use bz_tree::root_box;
 use std::alloc::Global;
 use std::test::Fail;
 
@@ -89,6 +93,47 @@ fn point(alloc: Global, x: i128) -> Result<Master, OutOfMemory>
     })
 }
 
+/// The cut `-eta <= 0`.
+fn floor_cut(alloc: Global) -> Result<Cut, OutOfMemory>
+    ensures { IfOk result (IsCutOfSplit (0 ∷ 1 ∷ [])) }
+{
+    Ok(Cut {
+        block: 1,
+        mu: SparseRow::from_pairs(alloc, &[(1, 3)])?,
+        gcd: 1,
+        alpha: SparseRow::from_vec(Vec::new(alloc)),
+        p0: 1,
+        beta: 0,
+    })
+}
+
+/// The cut `-6 x - eta <= beta`.
+fn cut(alloc: Global, beta: i128) -> Result<Cut, OutOfMemory>
+    requires { IsNarrow beta }
+    ensures { IfOk result (IsCutOfSplit (0 ∷ 1 ∷ [])) }
+{
+    Ok(Cut {
+        block: 1,
+        mu: SparseRow::from_pairs(alloc, &[(0, 3)])?,
+        gcd: 1,
+        alpha: SparseRow::from_pairs(alloc, &[(0, -6)])?,
+        p0: 1,
+        beta,
+    })
+}
+
+/// Both cuts.
+fn cuts(alloc: Global, beta: i128) -> Result<Items<Cut>, OutOfMemory>
+    requires { IsNarrow beta }
+    ensures fit { IfOk result (λ cuts. AllByRecursion (IsCutOfSplit (0 ∷ 1 ∷ [])) cuts) }
+    ensures count { IfOk result (λ cuts. length cuts ≡ 2) }
+{
+    let mut cuts = Vec::with_capacity(alloc, 2)?;
+    cuts.push(floor_cut(alloc)?).map_err(|_| OutOfMemory)?;
+    cuts.push(cut(alloc, beta)?).map_err(|_| OutOfMemory)?;
+    Ok(Items::from_vec(cuts))
+}
+
 /// The terms and the right side of a row of the program, none past its last.
 fn row_of(lp: &Lp, number: usize) -> Option<(&[(u32, i128)], i128)> {
     let row = lp.rows.as_slice().get(number)?;
@@ -149,5 +194,71 @@ fn a_wide_right_side_is_named(rt: HostRuntime) -> Result<(), Fail> {
     let point = point(rt.alloc(), MOST)?;
     let stopped = separation_lp(rt.alloc(), &split, 1, &point, Mode::Cost);
     assert!(rt; is_wide_at(&stopped, 0));
+    Ok(())
+}
+
+/// The node's variables are x and the eta of block 1: columns 0 and 1, and 2 and 3.
+#[test]
+fn a_node_has_the_box_and_the_cuts(rt: HostRuntime) -> Result<(), Fail> {
+    let split = split(rt.alloc())?;
+    let region = root_box(rt.alloc(), &split)?;
+    let cuts = cuts(rt.alloc(), -3)?;
+    for mode in [Mode::Cost, Mode::Point] {
+        let lp = node_lp(rt.alloc(), &split, &region, cuts.as_slice(), mode)?;
+        assert_eq!(rt; lp.columns, 4);
+        assert_eq!(rt; row_of(&lp, 0), Some(([(0, 1), (1, -1)].as_slice(), 1)));
+        assert_eq!(rt; row_of(&lp, 1), Some(([(0, -1), (1, 1)].as_slice(), 0)));
+        assert_eq!(rt; row_of(&lp, 2), Some(([(2, -1), (3, 1)].as_slice(), 0)));
+        let last = [(0, -6), (1, 6), (2, -1), (3, 1)];
+        assert_eq!(rt; row_of(&lp, 3), Some((last.as_slice(), -3)));
+        assert_eq!(rt; row_of(&lp, 4), None);
+        let cost = match mode {
+            Mode::Cost => [(0, 2), (1, -2), (2, 1), (3, -1)].as_slice(),
+            Mode::Point => [].as_slice(),
+        };
+        assert_eq!(rt; lp.cost.as_slice(), cost);
+    }
+    Ok(())
+}
+
+/// With another right side of a cut, or in another mode, it is another node.
+#[test]
+fn a_node_is_told_by_its_program(rt: HostRuntime) -> Result<(), Fail> {
+    let split = split(rt.alloc())?;
+    let region = root_box(rt.alloc(), &split)?;
+    let built = cuts(rt.alloc(), -3)?;
+    let other = cuts(rt.alloc(), -2)?;
+    let lp = node_lp(rt.alloc(), &split, &region, built.as_slice(), Mode::Cost)?;
+    assert!(rt; is_node_lp(&split, &region, built.as_slice(), Mode::Cost, &lp));
+    assert!(rt; !is_node_lp(&split, &region, other.as_slice(), Mode::Cost, &lp));
+    assert!(rt; !is_node_lp(&split, &region, built.as_slice(), Mode::Point, &lp));
+    Ok(())
+}
+
+/// At another x, or in another mode, it is another separation.
+#[test]
+fn a_separation_is_told_by_its_program(rt: HostRuntime) -> Result<(), Fail> {
+    let split = split(rt.alloc())?;
+    let at = point(rt.alloc(), 3)?;
+    let other = point(rt.alloc(), 1)?;
+    let lp = built(separation_lp(rt.alloc(), &split, 1, &at, Mode::Cost))?;
+    assert!(rt; is_separation_lp(&split, 1, &at, Mode::Cost, &lp));
+    assert!(rt; !is_separation_lp(&split, 1, &other, Mode::Cost, &lp));
+    assert!(rt; !is_separation_lp(&split, 1, &at, Mode::Point, &lp));
+    Ok(())
+}
+
+/// With another cost it is no floor.
+#[test]
+fn a_floor_is_told_by_its_program(rt: HostRuntime) -> Result<(), Fail> {
+    let split = split(rt.alloc())?;
+    let lp = floor_lp(rt.alloc(), &split, 1)?;
+    assert!(rt; is_floor_lp(&split, 1, &lp));
+    let costly = Lp {
+        columns: lp.columns,
+        rows: lp.rows,
+        cost: SparseRow::from_pairs(rt.alloc(), &[(0, 3), (1, -2)])?,
+    };
+    assert!(rt; !is_floor_lp(&split, 1, &costly));
     Ok(())
 }

@@ -6,3 +6,4 @@ pub mod NarrowSides
 pub mod OneRoot
 pub mod OneTree
 pub mod SplitBoxes
+pub mod SplitColumns

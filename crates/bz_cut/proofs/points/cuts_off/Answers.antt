@@ -1,4 +1,4 @@
-use Rattle.std.proofs.Common.{rules, ◌≡◌, sym, ℤ, pos, ◌<ℤ◌, FitsSigned, to_z-of_z, arith}
+use Rattle.std.proofs.Common.{rules, sym, pos, ◌<ℤ◌, FitsSigned, to_z-of_z, arith}
 use Rattle.std.proofs.lemmas.Int.{ints}
 use Rattle.std.specs.Int.{w128}
 use Rattle.bz_num.proofs.Folds.{narrow-from_fold}

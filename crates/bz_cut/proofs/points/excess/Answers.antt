@@ -1,4 +1,4 @@
-use Rattle.std.proofs.Common.{rules, ◌≡◌, sym, [], ◌∷◌, ◌+◌, ◌-◌, length, ℤ, neg_ℤ, Ok, Err, FitsSigned, to_z-of_z}
+use Rattle.std.proofs.Common.{rules, ◌≡◌, [], ◌∷◌, ◌+◌, length, ℤ, neg_ℤ, Ok, Err, FitsSigned, to_z-of_z}
 use Rattle.std.specs.Int.{w128}
 use Rattle.bz_num.specs.Fold.{fold_from, fold_of, pairs_at}
 use Rattle.bz_model.specs.PartPoints.{eta_of}

@@ -1,4 +1,3 @@
-use Rattle.std.proofs.Common.{rules, ◌≡◌, subst, sym}
 use Rattle.bz_split.specs.SplitFaults.{IsSplitFault}
 use Rattle.bz_split.proofs.TheFaults.{fault_column, fault_row}
 use Rattle.bz_split.proofs.splitting.split.Goals as goal

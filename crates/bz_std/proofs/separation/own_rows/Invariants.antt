@@ -4,8 +4,8 @@ use Rattle.std.specs.List.{AllByRecursion}
 use Rattle.bz_algebra.specs.Sums.{AllBelow}
 use Rattle.bz_num.specs.Fold.{IsNarrowSum}
 use Rattle.bz_std.specs.Posed.{line_of, line_over_columns}
-use Rattle.bz_std.specs.Stops.{IsFirstWideRow}
 use Rattle.bz_std.specs.Tasks.{own_line, right_pairs}
+use Rattle.bz_std.proofs.Building.{Finds}
 use Rattle.bz_std.proofs.separation.own_rows.Given as goal
 
 abbrev pub invariant-loop-number : goal.invariant-loop-number
@@ -15,5 +15,5 @@ invariant-loop-number l = record {
       ≡ map line_over_columns (map (own_line l.point) l.ineqs);
   narrow : AllByRecursion (λ i. IsNarrowSum (right_pairs l.point i)) (drop l.number l.ineqs)
       → AllByRecursion (λ i. IsNarrowSum (right_pairs l.point i)) l.ineqs;
-  wide : (k : ℕ) → IsFirstWideRow l.point (drop l.number l.ineqs) k → IsFirstWideRow l.point l.ineqs (l.number + k);
+  wide : (k : ℕ) → Finds l.point (drop l.number l.ineqs) k → Finds l.point l.ineqs (l.number + k);
 }

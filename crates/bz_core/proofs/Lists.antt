@@ -1,0 +1,79 @@
+-- Lists with a changed item, and with one more.
+use Rattle.std.proofs.Common.{◌≡◌, refl, sym, ◌∙◌, ap, subst, ℕ, zero, suc, List, [], ◌∷◌, ◌++◌, length, inl, inr}
+use Rattle.std.specs.Prelude.{◌⊎◌, Some, ◌<◌}
+use Rattle.std.specs.List.{AllByRecursion, slice_get}
+use Rattle.bz_core.specs.States.{changed, changed_at}
+
+pub length-changed : {X : Type 0} (f : X → X) (xs : List X) (i : ℕ) → length (changed f xs i) ≡ length xs
+length-changed f [] i = refl
+length-changed f (x ∷ xs) zero = refl
+length-changed f (x ∷ xs) (suc i) = ap suc (length-changed f xs i)
+
+-- an item at a place has what all have
+pub all_at : {X : Type 0} (P : X → Type 0) (xs : List X) (i : ℕ) (x : X) → AllByRecursion P xs → slice_get xs i ≡ Some x → P x
+all_at P [] i x h is = absurd (cc)
+all_at P (y ∷ ys) zero x h is =
+    let same : y ≡ x = cc in
+    subst P same h.0
+all_at P (y ∷ ys) (suc i) x h is = all_at P ys i x h.1 is
+
+-- the item at a place of a list with one more is one of the old ones, or the new one
+pub at_more : {X : Type 0} (xs : List X) (x : X) (k : ℕ) (e : X) → slice_get (xs ++ x ∷ []) k ≡ Some e
+    → (slice_get xs k ≡ Some e) ⊎ ((x ≡ e) × (k ≡ length xs))
+at_more [] x zero e h =
+    let same : x ≡ e = cc in
+    inr (same, refl)
+at_more [] x (suc k) e h = absurd (cc)
+at_more (y ∷ ys) x zero e h = inl h
+at_more (y ∷ ys) x (suc k) e h = later (at_more ys x k e h)
+  where
+    later : (slice_get ys k ≡ Some e) ⊎ ((x ≡ e) × (k ≡ length ys)) → (slice_get ys k ≡ Some e) ⊎ ((x ≡ e) × (suc k ≡ suc (length ys)))
+    later (inl g) = inl g
+    later (inr g) = inr (g.0, ap suc g.1)
+
+-- one item stands at a place
+pub at_one : {X : Type 0} (xs : List X) (k : ℕ) (a b : X) → slice_get xs k ≡ Some a → slice_get xs k ≡ Some b → a ≡ b
+at_one xs k a b h g = cc
+
+-- what stands at a place stays there with one more
+pub at_kept : {X : Type 0} (xs ys : List X) (k : ℕ) (e : X) → slice_get xs k ≡ Some e → slice_get (xs ++ ys) k ≡ Some e
+at_kept [] ys k e h = absurd (cc)
+at_kept (x ∷ xs) ys zero e h = h
+at_kept (x ∷ xs) ys (suc k) e h = at_kept xs ys k e h
+
+pub at_end : {X : Type 0} (xs : List X) (x : X) → slice_get (xs ++ x ∷ []) (length xs) ≡ Some x
+at_end [] x = refl
+at_end (y ∷ ys) x = at_end ys x
+
+-- ---- one item changed
+-- an item of the changed list is the one at its place before, or what is made of it where it is the place
+pub at_changed : {X : Type 0} (f : X → X) (xs : List X) (i k : ℕ) (y : X) → slice_get (changed f xs i) k ≡ Some y
+    → (x : X) × (slice_get xs k ≡ Some x) × ((y ≡ x) ⊎ ((k ≡ i) × (y ≡ f x)))
+at_changed f [] i k y h = absurd (cc)
+at_changed f (x ∷ xs) zero zero y h =
+    let same : f x ≡ y = cc in
+    (x, refl, inr (refl, sym same))
+at_changed f (x ∷ xs) zero (suc k) y h = (y, h, inl refl)
+at_changed f (x ∷ xs) (suc i) zero y h =
+    let same : x ≡ y = cc in
+    (x, refl, inl (sym same))
+at_changed f (x ∷ xs) (suc i) (suc k) y h = later (at_changed f xs i k y h)
+  where
+    later : ((z : _) × (slice_get xs k ≡ Some z) × ((y ≡ z) ⊎ ((k ≡ i) × (y ≡ f z)))) → (z : _) × (slice_get xs k ≡ Some z) × ((y ≡ z) ⊎ ((suc k ≡ suc i) × (y ≡ f z)))
+    later (z, at, inl e) = (z, at, inl e)
+    later (z, at, inr e) = (z, at, inr (ap suc e.0, e.1))
+
+-- what stands at a place stands there still, or what is made of it where it is the place
+pub changed_item : {X : Type 0} (f : X → X) (xs : List X) (i k : ℕ) (x : X) → slice_get xs k ≡ Some x
+    → (y : X) × (slice_get (changed f xs i) k ≡ Some y) × ((y ≡ x) ⊎ ((k ≡ i) × (y ≡ f x)))
+changed_item f [] i k x h = absurd (cc)
+changed_item f (x' ∷ xs) zero zero x h =
+    let same : x' ≡ x = cc in
+    (f x', refl, inr (refl, ap f same))
+changed_item f (x' ∷ xs) zero (suc k) x h = (x, h, inl refl)
+changed_item f (x' ∷ xs) (suc i) zero x h = (x, h, inl refl)
+changed_item f (x' ∷ xs) (suc i) (suc k) x h = later (changed_item f xs i k x h)
+  where
+    later : ((z : _) × (slice_get (changed f xs i) k ≡ Some z) × ((z ≡ x) ⊎ ((k ≡ i) × (z ≡ f x)))) → (z : _) × (slice_get (changed f xs i) k ≡ Some z) × ((z ≡ x) ⊎ ((suc k ≡ suc i) × (z ≡ f x)))
+    later (z, at, inl e) = (z, at, inl e)
+    later (z, at, inr e) = (z, at, inr (ap suc e.0, e.1))

@@ -1,0 +1,6 @@
+pub mod Histories
+pub mod Pools
+pub mod Posts
+pub mod States
+pub mod Steps
+pub mod Trees

@@ -1,0 +1,21 @@
+//! What is true of every legal history.
+ghost use Rattle.bz_core.specs.Histories.{CountsRise};
+ghost use Rattle.bz_core.specs.Pools.{PoolsAreRight};
+ghost use Rattle.bz_core.specs.Posts.{PostsAreRight};
+
+/// The counts of each worker's stamps are 0, 1, 2 and on, each once and in order.
+pub fn counts_rise()
+    ensures { CountsRise }
+{}
+
+/// The pool is the cuts of the floors and of the appended cuts, in their order: each is valid, with no sum wide that tells
+/// so, and no two are the same.
+pub fn pools_are_right()
+    ensures { PoolsAreRight }
+{}
+
+/// Each posted point, live or ended, lies in its node's box and meets the cuts of its own front; in mode Cost its leaf bounds
+/// the node by its value; and what fills a block completes it there.
+pub fn posts_are_right()
+    ensures { PostsAreRight }
+{}

@@ -1,0 +1,7 @@
+//! The core of a search: its state, which is the replay of its history, and what may be appended to that history.
+#![tactic(auto)]
+
+mod laws;
+mod state;
+
+pub use laws::{counts_rise, pools_are_right, posts_are_right};

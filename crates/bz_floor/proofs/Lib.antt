@@ -1,0 +1,5 @@
+pub mod DirectionTests
+pub mod FloorAnswers
+pub mod PlacedRays
+pub mod PlacedNumbers
+pub mod Primitives

@@ -1,0 +1,3 @@
+pub mod CutAnswers
+pub mod FillAnswers
+pub mod SolvedPrograms

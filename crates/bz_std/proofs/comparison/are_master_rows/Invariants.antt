@@ -1,0 +1,9 @@
+-- What is left of both lists is related exactly where they are.
+use Rattle.bz_tree.specs.Leaves.{side_of_master}
+use Rattle.bz_std.specs.Posed.{IsRowOf}
+use Rattle.bz_std.specs.Tasks.{side_line}
+use Rattle.bz_std.proofs.ListsCompared.{StillPairwise}
+use Rattle.bz_std.proofs.comparison.are_master_rows.Given as goal
+
+abbrev pub invariant-loop-number : goal.invariant-loop-number
+invariant-loop-number l = StillPairwise (λ i. IsRowOf (side_line l.width (side_of_master i))) l.ineqs l.rows l.number
