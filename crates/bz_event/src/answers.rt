@@ -1,12 +1,11 @@
 //! What tasks come to.
 
+use crate::tasks::TaskName;
 use bz_cut::Cut;
 use bz_model::{BlockPart, Master};
 use bz_num::Items;
 use bz_tableau::{Lp, WideAt};
 use bz_tree::Leaf;
-
-use crate::tasks::TaskName;
 
 /// What a task comes to, with the program that was solved for it.
 #[derive(Drop)]
@@ -50,9 +49,14 @@ pub enum NodeAnswer {
         leaf: Option<Leaf>,
     },
     /// No point, as the leaf shows.
-    Empty { leaf: Leaf },
+    Empty {
+        leaf: Leaf,
+    },
     /// A least point, whole on the integer columns.
-    Point { point: Master, leaf: Option<Leaf> },
+    Point {
+        point: Master,
+        leaf: Option<Leaf>,
+    },
 }
 
 /// Why a task has no answer.

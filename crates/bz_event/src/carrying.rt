@@ -2,12 +2,11 @@
 ghost use Rattle.std.specs.Prelude.{◌≡◌};
 ghost use Rattle.bz_event.specs.Carried.{carried};
 
+use crate::answers::{Solved, TaskStop};
+use crate::tasks::TaskName;
 use bz_model::Master;
 use bz_tableau::{Lp, LpStop};
 use std::alloc::AllocError;
-
-use crate::answers::{Solved, TaskStop};
-use crate::tasks::TaskName;
 
 /// What was found of a task, with the task, its point and its program: the answer, or the wide place. Of want of memory
 /// nothing is carried.

@@ -23,7 +23,6 @@ module _ (x den q r : ℤ) (positive : (pos 0) <ℤ den) (divided : (q *ℤ den)
       let small : unsigned_abs r < unsigned_abs den = omega (arith, ints) in
       whole_rest w.0 q r den positive (divided ∙ w.1) small
 
-
 -- ---- many numbers
 all_from_places : (P : ℕ → Type 0) (ps : List ℕ) → ((k : ℕ) → k < length ps → P (slice_index_or ps k 0)) → AllByRecursion P ps
 all_from_places P [] h = tt

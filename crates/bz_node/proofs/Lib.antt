@@ -3,3 +3,4 @@ mod LeafSteps
 mod LeastSteps
 mod PointSteps
 mod SumTests
+mod WorkedNodes

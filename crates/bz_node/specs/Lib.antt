@@ -2,3 +2,4 @@ pub mod Fractional
 pub mod LeafStops
 pub mod NodePrograms
 pub mod PointSteps
+pub mod Worked

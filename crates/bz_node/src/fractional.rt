@@ -24,7 +24,7 @@ fn is_whole(number: i128, den: i128) -> bool
 }
 
 /// The fraction rounded down.
-pub fn rounded_down(number: i128, den: i128) -> i128
+pub(crate) fn rounded_down(number: i128, den: i128) -> i128
     requires { pos 0 <ℤ den }
     ensures { IsRoundedDown number den result }
 {
@@ -32,7 +32,7 @@ pub fn rounded_down(number: i128, den: i128) -> i128
 }
 
 /// The first of the positions whose number, over the denominator, isn't whole.
-pub fn first_fractional(positions: &[u32], numbers: &[i128], den: i128) -> Option<u32>
+pub(crate) fn first_fractional(positions: &[u32], numbers: &[i128], den: i128) -> Option<u32>
     requires positive { pos 0 <ℤ den }
     requires inside { AllByRecursion (λ p. p < length numbers.now) positions.now }
     ensures { FindsFractional positions.now (entry numbers.now) den result }

@@ -15,7 +15,7 @@ use bz_tableau::{LpStop, Vals};
 use std::alloc::Global;
 
 /// The answer of a node whose program has the least point z, as the basis and its multipliers y show.
-pub fn least_answer(
+pub(crate) fn least_answer(
     alloc: Global,
     program: &NodeProgram<'_>,
     basis: Items<u32>,

@@ -31,7 +31,7 @@ fn fits(program: &NodeProgram<'_>, leaf: &Leaf) -> bool
 
 /// The leaf that the multipliers y of the program's rows make over `by`. Where a sum or a product is wide that tells that
 /// it holds there is none.
-pub fn fitting_leaf(
+pub(crate) fn fitting_leaf(
     alloc: Global,
     program: &NodeProgram<'_>,
     y: &[i128],
@@ -50,7 +50,7 @@ pub fn fitting_leaf(
 }
 
 /// In mode Cost the leaf of the multipliers of a least point, whose bound over its delta is the point's cost.
-pub fn cost_leaf(
+pub(crate) fn cost_leaf(
     alloc: Global,
     program: &NodeProgram<'_>,
     y: &Vals,

@@ -6,11 +6,14 @@
 #![tactic(auto)]
 
 mod fractional;
-mod leaves;
 mod least;
+mod leaves;
 mod points;
 mod programs;
 mod solving;
 mod sums;
 
 pub use solving::solve_node;
+
+#[cfg(test)]
+mod tests;

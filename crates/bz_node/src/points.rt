@@ -54,7 +54,7 @@ fn point_of(
 
 /// The answer of a node at whose least point z each integer column is whole; its variables have these numbers. Where a
 /// sum of the point is wide there is none.
-pub fn point_answer(
+pub(crate) fn point_answer(
     alloc: Global,
     program: &NodeProgram<'_>,
     basis: Items<u32>,

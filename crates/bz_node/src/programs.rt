@@ -14,7 +14,7 @@ use bz_tableau::{Lp, LpStop, WideAt};
 
 /// A node that is to be solved, with its program.
 #[derive(Clone, Copy)]
-pub struct NodeProgram<'a> {
+pub(crate) struct NodeProgram<'a> {
     pub split: &'a Split,
     pub task: &'a NodeTask,
     /// The positions of the integer columns in the master.
@@ -23,14 +23,14 @@ pub struct NodeProgram<'a> {
 }
 
 /// How many variables a node's program has: the master's positions, and an eta for each block.
-pub fn variables(split: &Split) -> u32
+pub(crate) fn variables(split: &Split) -> u32
     ensures { result ≡ width_of split.now.part 0 + blocks_of split.now.part }
 {
     split.width(0) + split.blocks()
 }
 
 /// The stop at a sum of what the answer of a basis makes, by the number of its list and its place there.
-pub fn wide_sum_stop(relaxed: bool, basis: Items<u32>, list: u32, at: u32) -> LpStop
+pub(crate) fn wide_sum_stop(relaxed: bool, basis: Items<u32>, list: u32, at: u32) -> LpStop
     ensures { result ≡ stop.Wide (Fold relaxed basis None list at) }
 {
     LpStop::Wide(WideAt::Fold {
@@ -43,7 +43,7 @@ pub fn wide_sum_stop(relaxed: bool, basis: Items<u32>, list: u32, at: u32) -> Lp
 }
 
 /// The stop of an answer whose leaf is not made.
-pub fn leaf_stop(stop: MakeStop, relaxed: bool, basis: Items<u32>) -> LpStop
+pub(crate) fn leaf_stop(stop: MakeStop, relaxed: bool, basis: Items<u32>) -> LpStop
     ensures { result ≡ leaf_stopped stop relaxed basis }
 {
     match stop {

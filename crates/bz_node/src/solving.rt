@@ -10,8 +10,8 @@ ghost use Rattle.bz_event.specs.Nodes.{IsReady, SolvesNode};
 ghost use Rattle.bz_event.specs.Stops.{EndsNode};
 ghost use Rattle.bz_node.specs.NodePrograms.{AnswersNode, IsNodeProgram, StopsProgram, cuts_of, mode_of, part_of};
 
-use crate::leaves::fitting_leaf;
 use crate::least::least_answer;
+use crate::leaves::fitting_leaf;
 use crate::programs::{NodeProgram, leaf_stop};
 use bz_event::{NodeAnswer, NodeTask, Solved, TaskName, TaskStop, carry};
 use bz_lex::solve;
@@ -72,13 +72,7 @@ pub fn solve_node(
         (box_of task.now.region) task.now.cuts task.now.mode) }
 {
     let positions = integer_positions(alloc, split)?;
-    let lp = node_lp(
-        alloc,
-        split,
-        &task.region,
-        task.cuts.as_slice(),
-        task.mode,
-    )?;
+    let lp = node_lp(alloc, split, &task.region, task.cuts.as_slice(), task.mode)?;
     let program = NodeProgram {
         split,
         task,

@@ -50,7 +50,7 @@ fn wide_place(fault: CheckFault) -> (u32, u32)
 }
 
 /// The first wide sum of a point at which the master's inequalities hold: the number of its list, and its place there.
-pub fn wide_sum(split: &Split, mode: Mode, point: &Master) -> Option<(u32, u32)>
+pub(crate) fn wide_sum(split: &Split, mode: Mode, point: &Master) -> Option<(u32, u32)>
     requires shape { IsMasterOf split.now.part point.now }
     requires holds { AllByRecursion (HoldsInMaster point.now) (inequalities_of split.now.model split.now.part 0) }
     ensures { FindsWideSum split.now.model split.now.part mode point.now result }

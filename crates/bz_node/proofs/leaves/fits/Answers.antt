@@ -15,8 +15,8 @@ returns c =
     let n = c.args.program.now in
     let leaf = c.args.leaf.now in
     let judged : Judges (leaf_tests (model_of n) (part_of n) (sides_of (model_of n) (part_of n) (region_of n) (cuts_of n)) 0 leaf) c.judge_leaf.result =
-        subst (λ (sides : List Ineq). Judges (leaf_tests (model_of n) (part_of n) sides 0 leaf) c.judge_leaf.result)
-        ((λ i. sides_among (c.inequalities.ensures.value i) (c.requires.program.positions_are i) (record { lower = c.as_slice.ensures i; upper = c.as_slice-2.ensures i }) (c.as_slice-3.ensures i))
-        ∙ sides_same (model_of n) (part_of n) (region_of n) (cuts_of n))
-        c.judge_leaf.ensures in
+    subst (λ (sides : List Ineq). Judges (leaf_tests (model_of n) (part_of n) sides 0 leaf) c.judge_leaf.result)
+    ((λ i. sides_among (c.inequalities.ensures.value i) (c.requires.program.positions_are i) (record { lower = c.as_slice.ensures i; upper = c.as_slice-2.ensures i }) (c.as_slice-3.ensures i))
+    ∙ sides_same (model_of n) (part_of n) (region_of n) (cuts_of n))
+    c.judge_leaf.ensures in
     rw c.is_ok.ensures.value (fits_told (model_of n) (part_of n) (region_of n) (cuts_of n) leaf c.judge_leaf.result c.requires.holds judged)
