@@ -1,5 +1,5 @@
 -- Lists with a changed item, and with one more.
-use Rattle.std.proofs.Common.{◌≡◌, refl, sym, ◌∙◌, ap, subst, ℕ, zero, suc, List, [], ◌∷◌, ◌++◌, length, inl, inr}
+use Rattle.std.proofs.Common.{◌≡◌, refl, sym, ◌∙◌, ap, subst, ℕ, zero, suc, ◌+◌, List, [], ◌∷◌, ◌++◌, length, inl, inr, arith}
 use Rattle.std.specs.Prelude.{◌⊎◌, Some, ◌<◌}
 use Rattle.std.specs.List.{AllByRecursion, slice_get}
 use Rattle.bz_core.specs.States.{changed, changed_at}
@@ -77,3 +77,20 @@ changed_item f (x' ∷ xs) (suc i) (suc k) x h = later (changed_item f xs i k x 
     later : ((z : _) × (slice_get (changed f xs i) k ≡ Some z) × ((z ≡ x) ⊎ ((k ≡ i) × (z ≡ f x)))) → (z : _) × (slice_get (changed f xs i) k ≡ Some z) × ((z ≡ x) ⊎ ((suc k ≡ suc i) × (z ≡ f x)))
     later (z, at, inl e) = (z, at, inl e)
     later (z, at, inr e) = (z, at, inr (ap suc e.0, e.1))
+
+-- ---- lists after lists
+-- an item of two lists together is one of the first, or one of the second at what is left of its place
+pub at_either : {X : Type 0} (xs ys : List X) (k : ℕ) (e : X) → slice_get (xs ++ ys) k ≡ Some e → (slice_get xs k ≡ Some e) ⊎ ((j : ℕ) × (k ≡ length xs + j) × (slice_get ys j ≡ Some e))
+at_either [] ys k e h = inr (k, refl, h)
+at_either (x ∷ xs) ys zero e h = inl h
+at_either (x ∷ xs) ys (suc k) e h = later (at_either xs ys k e h)
+  where
+    later : (slice_get xs k ≡ Some e) ⊎ ((j : ℕ) × (k ≡ length xs + j) × (slice_get ys j ≡ Some e)) → (slice_get xs k ≡ Some e) ⊎ ((j : ℕ) × (suc k ≡ suc (length xs) + j) × (slice_get ys j ≡ Some e))
+    later (inl g) = inl g
+    later (inr (j, place, at)) =
+        let next : suc k ≡ suc (length xs) + j = omega arith in
+        inr (j, next, at)
+
+pub at_after : {X : Type 0} (xs ys : List X) (j : ℕ) (e : X) → slice_get ys j ≡ Some e → slice_get (xs ++ ys) (length xs + j) ≡ Some e
+at_after [] ys j e h = h
+at_after (x ∷ xs) ys j e h = ?

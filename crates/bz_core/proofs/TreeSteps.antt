@@ -51,27 +51,27 @@ steady_freed : (o : Option Post) (number : ℕ) (nodes : List Node) → AreStead
 steady_freed None number nodes = steady_same nodes
 steady_freed (Some post) number nodes = steady_where (is_live post) nodes (changed (freed_by number) nodes post.node) (steady_changed (freed_by number) nodes post.node (λ x. refl) (λ x. refl))
 
--- the nodes stay with their ends
-abbrev AreKeptWhole : List Node → List Node → Type 0
-AreKeptWhole nodes later = (n : ℕ) (x : Node) → IsAt nodes n x → (z : Node) × IsAt later n z × (z.closing ≡ x.closing)
+-- closed nodes stay with their ends
+abbrev AreKeptClosed : List Node → List Node → Type 0
+AreKeptClosed nodes later = (n : ℕ) (x : Node) (c : Closing) → IsAt nodes n x → x.closing ≡ Some c → (z : Node) × IsAt later n z × (z.closing ≡ Some c)
 
-whole_same : (nodes : List Node) → AreKeptWhole nodes nodes
-whole_same nodes n x h = (x, h, refl)
+closed_same : (nodes : List Node) → AreKeptClosed nodes nodes
+closed_same nodes n x c h is = (x, h, is)
 
-whole_changed : (f : Node → Node) (nodes : List Node) (i : ℕ) → ((x : Node) → (f x).closing ≡ x.closing) → AreKeptWhole nodes (changed f nodes i)
-whole_changed f nodes i closing n x h = by (changed_item f nodes i n x h)
+closed_changed : (f : Node → Node) (nodes : List Node) (i : ℕ) → ((x : Node) → (f x).closing ≡ x.closing) → AreKeptClosed nodes (changed f nodes i)
+closed_changed f nodes i closing n x c h is = by (changed_item f nodes i n x h)
   where
-    by : ((y : Node) × (slice_get (changed f nodes i) n ≡ Some y) × ((y ≡ x) ⊎ ((n ≡ i) × (y ≡ f x)))) → (z : Node) × IsAt (changed f nodes i) n z × (z.closing ≡ x.closing)
-    by (y, is, inl e) = (y, is, ap (λ (u : Node). u.closing) e)
-    by (y, is, inr e) = (y, is, ap (λ (u : Node). u.closing) e.1 ∙ closing x)
+    by : ((y : Node) × (slice_get (changed f nodes i) n ≡ Some y) × ((y ≡ x) ⊎ ((n ≡ i) × (y ≡ f x)))) → (z : Node) × IsAt (changed f nodes i) n z × (z.closing ≡ Some c)
+    by (y, at, inl e) = (y, at, ap (λ (u : Node). u.closing) e ∙ is)
+    by (y, at, inr e) = (y, at, ap (λ (u : Node). u.closing) e.1 ∙ closing x ∙ is)
 
-whole_where : (b : Bool) (nodes later : List Node) → AreKeptWhole nodes later → AreKeptWhole nodes (cond b later nodes)
-whole_where true nodes later h = h
-whole_where false nodes later h = whole_same nodes
+closed_where : (b : Bool) (nodes later : List Node) → AreKeptClosed nodes later → AreKeptClosed nodes (cond b later nodes)
+closed_where true nodes later h = h
+closed_where false nodes later h = closed_same nodes
 
-whole_freed : (o : Option Post) (number : ℕ) (nodes : List Node) → AreKeptWhole nodes (freed_where_live o number nodes)
-whole_freed None number nodes = whole_same nodes
-whole_freed (Some post) number nodes = whole_where (is_live post) nodes (changed (freed_by number) nodes post.node) (whole_changed (freed_by number) nodes post.node (λ x. refl))
+closed_freed : (o : Option Post) (number : ℕ) (nodes : List Node) → AreKeptClosed nodes (freed_where_live o number nodes)
+closed_freed None number nodes = closed_same nodes
+closed_freed (Some post) number nodes = closed_where (is_live post) nodes (changed (freed_by number) nodes post.node) (closed_changed (freed_by number) nodes post.node (λ x. refl))
 
 -- ---- ends that stay right
 region_kept : (nodes later : List Node) (n : ℕ) (region : Region) → AreKept nodes later → HasRegion nodes n region → HasRegion later n region
@@ -99,14 +99,14 @@ end_grown d cuts more nodes later n region (Some closing) kept longer h = by clo
           fits = subst (λ (cs : List Cut). FitsLeaf d.model d.part (box_of region) cs leaf) (sym (longer.front front inside)) g.fits;
         }
 
-parent_kept : (nodes later : List Node) (m n : ℕ) → AreKeptWhole nodes later → IsParent nodes m n → IsParent later m n
+parent_kept : (nodes later : List Node) (m n : ℕ) → AreKeptClosed nodes later → IsParent nodes m n → IsParent later m n
 parent_kept nodes later m n kept h =
-    let k : (z : Node) × IsAt later m z × (z.closing ≡ h.node.closing) = kept m h.node h.is_node in
+    let k : (z : Node) × IsAt later m z × (z.closing ≡ Some h.closing) = kept m h.node h.closing h.is_node h.closed in
     record {
       node = k.0;
       is_node = k.1;
       closing = h.closing;
-      closed = k.2 ∙ h.closed;
+      closed = k.2;
       front = h.front;
       basis = h.basis;
       position = h.position;
@@ -116,34 +116,70 @@ parent_kept nodes later m n kept h =
     }
 
 -- the tree is whole over more cuts, with nodes that stay as they are
-tree_kept : (d : Decomposition) (root : Region) (t u : State) → AreKept t.nodes u.nodes → AreSteady t.nodes u.nodes → AreKeptWhole t.nodes u.nodes → IsLonger t.cuts u.cuts → IsTree d root t → IsTree d root u
-tree_kept d root t u kept steady whole longer h = record {
-  first = region_kept t.nodes u.nodes 0 root kept h.first;
+tree_kept : (d : Decomposition) (root : Region) (cuts more : List Cut) (nodes later : List Node) → AreKept nodes later → AreSteady nodes later → AreKeptClosed nodes later → IsLonger cuts more → IsTree d root cuts nodes → IsTree d root more later
+tree_kept d root cuts more nodes later kept steady closed longer h = record {
+  first = region_kept nodes later 0 root kept h.first;
   each = each;
   inside = inside;
   parents = parents;
 }
   where
-    each : (n : ℕ) (z : Node) → IsAt u.nodes n z → IsEndedRight d u.cuts u.nodes n z.region z.closing
+    each : (n : ℕ) (z : Node) → IsAt later n z → IsEndedRight d more later n z.region z.closing
     each n z is =
-        let s : (x : Node) × IsAt t.nodes n x × (z.region ≡ x.region) × (z.closing ≡ x.closing) = steady n z is in
-        subst (λ (c : Option Closing). IsEndedRight d u.cuts u.nodes n z.region c) (sym s.3)
-            (subst (λ (r : Region). IsEndedRight d u.cuts u.nodes n r s.0.closing) (sym s.2)
-                (end_grown d t.cuts u.cuts t.nodes u.nodes n s.0.region s.0.closing kept longer (h.each n s.0 s.1)))
-    inside : (n : ℕ) (z : Node) → IsAt u.nodes n z → IsInside root z.region
+        let s : (x : Node) × IsAt nodes n x × (z.region ≡ x.region) × (z.closing ≡ x.closing) = steady n z is in
+        subst (λ (c : Option Closing). IsEndedRight d more later n z.region c) (sym s.3)
+            (subst (λ (r : Region). IsEndedRight d more later n r s.0.closing) (sym s.2)
+                (end_grown d cuts more nodes later n s.0.region s.0.closing kept longer (h.each n s.0 s.1)))
+    inside : (n : ℕ) (z : Node) → IsAt later n z → IsInside root z.region
     inside n z is =
-        let s : (x : Node) × IsAt t.nodes n x × (z.region ≡ x.region) × (z.closing ≡ x.closing) = steady n z is in
+        let s : (x : Node) × IsAt nodes n x × (z.region ≡ x.region) × (z.closing ≡ x.closing) = steady n z is in
         subst (IsInside root) (sym s.2) (h.inside n s.0 s.1)
-    parents : (n : ℕ) (z : Node) → IsAt u.nodes (suc n) z → (m : ℕ) × IsParent u.nodes m (suc n)
+    parents : (n : ℕ) (z : Node) → IsAt later (suc n) z → (m : ℕ) × IsParent later m (suc n)
     parents n z is =
-        let s : (x : Node) × IsAt t.nodes (suc n) x × (z.region ≡ x.region) × (z.closing ≡ x.closing) = steady (suc n) z is in
-        let p : (m : ℕ) × IsParent t.nodes m (suc n) = h.parents n s.0 s.1 in
-        (p.0, parent_kept t.nodes u.nodes p.0 (suc n) whole p.1)
+        let s : (x : Node) × IsAt nodes (suc n) x × (z.region ≡ x.region) × (z.closing ≡ x.closing) = steady (suc n) z is in
+        let p : (m : ℕ) × IsParent nodes m (suc n) = h.parents n s.0 s.1 in
+        (p.0, parent_kept nodes later p.0 (suc n) closed p.1)
 
 -- ---- a node is closed
+-- a number is put in, or another stays
+number_set : (xs : List ℤ) (k j : ℕ) (v : ℤ) → ((j ≡ k) × (coordinate (set xs k v) j ≡ v)) ⊎ (coordinate (set xs k v) j ≡ coordinate xs j)
+number_set [] k j v = inr refl
+number_set (x ∷ xs) zero zero v = inl (refl, refl)
+number_set (x ∷ xs) zero (suc j) v = inr refl
+number_set (x ∷ xs) (suc k) zero v = inr refl
+number_set (x ∷ xs) (suc k) (suc j) v = later (number_set xs k j v)
+  where
+    later : ((j ≡ k) × (coordinate (set xs k v) j ≡ v)) ⊎ (coordinate (set xs k v) j ≡ coordinate xs j) → ((suc j ≡ suc k) × (coordinate (set xs k v) j ≡ v)) ⊎ (coordinate (set xs k v) j ≡ coordinate xs j)
+    later (inl g) = inl (ap suc g.0, g.1)
+    later (inr g) = inr g
+
 -- the sides of a split lie in the root's box
 inside_below : (root region : Region) (k : ℕ) (value : ℤ) → value <ℤ coordinate region.upper k → IsInside root region → IsInside root (below k value region)
-inside_below root region k value less h = record { lowers = h.lowers; uppers = length-set region.upper k value ∙ h.uppers; lower = h.lower; upper = λ j. ? }
+inside_below root region k value less h = record {
+  lowers = h.lowers;
+  uppers = length-set region.upper k value ∙ h.uppers;
+  lower = h.lower;
+  upper = λ j. by j (number_set region.upper k j value);
+}
+  where
+    by : (j : ℕ) → ((j ≡ k) × (coordinate (set region.upper k value) j ≡ value)) ⊎ (coordinate (set region.upper k value) j ≡ coordinate region.upper j) → coordinate (set region.upper k value) j ≤ℤ coordinate root.upper j
+    by j (inl g) =
+        let at : coordinate region.upper k ≤ℤ coordinate root.upper k = h.upper k in
+        let here : value ≤ℤ coordinate root.upper k = omega arith in
+        subst (λ (n : ℤ). n ≤ℤ coordinate root.upper j) (sym g.1) (subst (λ (i : ℕ). value ≤ℤ coordinate root.upper i) (sym g.0) here)
+    by j (inr g) = subst (λ (n : ℤ). n ≤ℤ coordinate root.upper j) (sym g) (h.upper j)
 
 inside_above : (root region : Region) (k : ℕ) (value : ℤ) → coordinate region.lower k ≤ℤ value → IsInside root region → IsInside root (above k value region)
-inside_above root region k value least h = record { lowers = length-set region.lower k (value +ℤ pos 1) ∙ h.lowers; uppers = h.uppers; lower = λ j. ?; upper = h.upper }
+inside_above root region k value least h = record {
+  lowers = length-set region.lower k (value +ℤ pos 1) ∙ h.lowers;
+  uppers = h.uppers;
+  lower = λ j. by j (number_set region.lower k j (value +ℤ pos 1));
+  upper = h.upper;
+}
+  where
+    by : (j : ℕ) → ((j ≡ k) × (coordinate (set region.lower k (value +ℤ pos 1)) j ≡ value +ℤ pos 1)) ⊎ (coordinate (set region.lower k (value +ℤ pos 1)) j ≡ coordinate region.lower j) → coordinate root.lower j ≤ℤ coordinate (set region.lower k (value +ℤ pos 1)) j
+    by j (inl g) =
+        let at : coordinate root.lower k ≤ℤ coordinate region.lower k = h.lower k in
+        let here : coordinate root.lower k ≤ℤ (value +ℤ pos 1) = omega arith in
+        subst (λ (n : ℤ). coordinate root.lower j ≤ℤ n) (sym g.1) (subst (λ (i : ℕ). coordinate root.lower i ≤ℤ (value +ℤ pos 1)) (sym g.0) here)
+    by j (inr g) = subst (λ (n : ℤ). coordinate root.lower j ≤ℤ n) (sym g) (h.lower j)
