@@ -29,6 +29,7 @@ pub use records::{Column, Ineq, Model, Row};
 pub use sizes::size;
 pub use splitting::{Split, Unsplit0};
 pub use stated::Stated;
+pub use widths::all_below;
 
 #[cfg(test)]
 mod tests;

@@ -6,8 +6,8 @@ ghost use Rattle.bz_model.specs.Parting.{blocks_of, width_of};
 use crate::splitting::Split;
 use bz_num::SparseRow;
 
-/// Whether each index of the row is below `count`.
-fn all_below(row: &SparseRow, count: u32) -> bool
+/// Whether each index of the row is below `count`. It takes no memory.
+pub fn all_below(row: &SparseRow, count: u32) -> bool
     ensures { IsTrue result ↔ AllBelow count row.now }
 {
     for entry in row.as_slice() {

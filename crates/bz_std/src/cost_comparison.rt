@@ -8,8 +8,8 @@ ghost use Rattle.bz_std.specs.Compared.{HasCosts, HasNodeCosts, HasNumber, HasOn
 ghost use Rattle.bz_std.specs.Tasks.{IsNodeCost, IsPartCost};
 
 use crate::row_comparison::are_equal;
-use bz_cut::{Mode, all_below};
-use bz_model::Split;
+use bz_cut::Mode;
+use bz_model::{Split, all_below};
 use bz_num::{SparseRow, narrow_negation};
 
 /// Whether a variable has this number in the row.
