@@ -93,4 +93,7 @@ at_either (x ∷ xs) ys (suc k) e h = later (at_either xs ys k e h)
 
 pub at_after : {X : Type 0} (xs ys : List X) (j : ℕ) (e : X) → slice_get ys j ≡ Some e → slice_get (xs ++ ys) (length xs + j) ≡ Some e
 at_after [] ys j e h = h
-at_after (x ∷ xs) ys j e h = ?
+at_after (x ∷ xs) ys j e h =
+    let rest : slice_get (xs ++ ys) (length xs + j) ≡ Some e = at_after xs ys j e h in
+    let place : suc (length xs) + j ≡ suc (length xs + j) = omega arith in
+    subst (λ (k : ℕ). slice_get (x ∷ (xs ++ ys)) k ≡ Some e) (sym place) rest

@@ -1,5 +1,5 @@
 -- The tree is kept whole by each event.
-use Rattle.std.proofs.Common.{◌≡◌, refl, sym, ◌∙◌, ap, subst, ℕ, zero, suc, ◌+◌, ◌<◌, ◌≤◌, List, [], ◌∷◌, ◌++◌, length, inl, inr, arith, ℤ, pos, ◌+ℤ◌, ◌≤ℤ◌, ◌<ℤ◌}
+use Rattle.std.proofs.Common.{◌≡◌, refl, sym, ◌∙◌, ap, subst, ℕ, zero, suc, ◌+◌, ◌<◌, ◌≤◌, List, [], ◌∷◌, ◌++◌, length, inl, inr, arith, ℤ, pos, ◌+ℤ◌, ◌≤ℤ◌, ◌<ℤ◌, ints}
 use Rattle.std.specs.Prelude.{◌⊎◌, Option, Some, None, Bool, true, false, cond, take, set}
 use Rattle.std.specs.List.{slice_get}
 use Rattle.std.proofs.lemmas.List.{length-append, length-set}
@@ -24,8 +24,8 @@ use Rattle.bz_core.specs.States.{State, above, below, box_of, changed, changed_a
 use Rattle.bz_core.specs.Steps.{IsAt, IsCloseStep, IsClosing, IsSplitStep, MayFollow}
 use Rattle.bz_core.specs.Trees.{HasRegion, IsEnd, IsEndedRight, IsInside, IsLeafAt, IsParent, IsSplitAt, IsTree, TreesAreWhole}
 use Rattle.bz_core.proofs.Growing.{histories_grow}
-use Rattle.bz_core.proofs.Lists.{at_changed, at_end, at_kept, at_more, at_one, changed_item}
-use Rattle.bz_core.proofs.PostSteps.{AreKept, IsLonger, kept_changed, kept_freed, kept_with, longer_with}
+use Rattle.bz_core.proofs.Lists.{at_after, at_changed, at_either, at_kept, at_one, changed_item, length-changed}
+use Rattle.bz_core.proofs.PostSteps.{AreKept, IsLonger, kept_changed, kept_freed, kept_with, longer_same, longer_with}
 use Rattle.bz_core.proofs.SplitColumns.{splits_at}
 
 -- ---- nodes that stay as they are
@@ -165,7 +165,7 @@ inside_below root region k value less h = record {
     by : (j : ℕ) → ((j ≡ k) × (coordinate (set region.upper k value) j ≡ value)) ⊎ (coordinate (set region.upper k value) j ≡ coordinate region.upper j) → coordinate (set region.upper k value) j ≤ℤ coordinate root.upper j
     by j (inl g) =
         let at : coordinate region.upper k ≤ℤ coordinate root.upper k = h.upper k in
-        let here : value ≤ℤ coordinate root.upper k = omega arith in
+        let here : value ≤ℤ coordinate root.upper k = omega (arith, ints) in
         subst (λ (n : ℤ). n ≤ℤ coordinate root.upper j) (sym g.1) (subst (λ (i : ℕ). value ≤ℤ coordinate root.upper i) (sym g.0) here)
     by j (inr g) = subst (λ (n : ℤ). n ≤ℤ coordinate root.upper j) (sym g) (h.upper j)
 
@@ -180,6 +180,85 @@ inside_above root region k value least h = record {
     by : (j : ℕ) → ((j ≡ k) × (coordinate (set region.lower k (value +ℤ pos 1)) j ≡ value +ℤ pos 1)) ⊎ (coordinate (set region.lower k (value +ℤ pos 1)) j ≡ coordinate region.lower j) → coordinate root.lower j ≤ℤ coordinate (set region.lower k (value +ℤ pos 1)) j
     by j (inl g) =
         let at : coordinate root.lower k ≤ℤ coordinate region.lower k = h.lower k in
-        let here : coordinate root.lower k ≤ℤ (value +ℤ pos 1) = omega arith in
+        let here : coordinate root.lower k ≤ℤ (value +ℤ pos 1) = omega (arith, ints) in
         subst (λ (n : ℤ). coordinate root.lower j ≤ℤ n) (sym g.1) (subst (λ (i : ℕ). coordinate root.lower i ≤ℤ (value +ℤ pos 1)) (sym g.0) here)
     by j (inr g) = subst (λ (n : ℤ). coordinate root.lower j ≤ℤ n) (sym g) (h.lower j)
+
+-- a region at a place of what comes after the nodes
+region_after : (nodes more : List Node) (j n : ℕ) (node : Node) (region : Region) → slice_get more j ≡ Some node → n ≡ length nodes + j → node.region ≡ region → HasRegion (nodes ++ more) n region
+region_after nodes more j n node region at place same = record {
+  node = node;
+  is_node = subst (λ (k : ℕ). slice_get (nodes ++ more) k ≡ Some node) (sym place) (at_after nodes more j node at);
+  region_is = same;
+}
+
+-- what a closing needs of the nodes that it opens, after those that are there
+record IsOpened (d : Decomposition) (root : Region) (cuts : List Cut) (nodes later : List Node) (number at : ℕ) (h : How) (more : List Node) : Type 0 where
+  ended : (region : Region) → HasRegion nodes number region → IsEnd d cuts later number region (length nodes) h
+  fresh : (j : ℕ) (z : Node) → slice_get more j ≡ Some z → (z.closing ≡ None) × IsInside root z.region × IsParent later number (length nodes + j)
+
+-- the node with this number is open, and is closed so; the nodes that this opens come after all others
+tree_closed : (d : Decomposition) (root : Region) (cuts : List Cut) (nodes : List Node) (number at : ℕ) (h : How) (node : Node) (more : List Node)
+    → IsAt nodes number node → node.closing ≡ None
+    → IsOpened d root cuts nodes (changed (closed_by h at (length nodes)) nodes number ++ more) number at h more
+    → IsTree d root cuts nodes → IsTree d root cuts (changed (closed_by h at (length nodes)) nodes number ++ more)
+tree_closed d root cuts nodes number at h node more is_node open_still opened t = record {
+  first = region_kept nodes later 0 root kept t.first;
+  each = λ n z is. each n z (at_either closed more n z is);
+  inside = λ n z is. inside n z (at_either closed more n z is);
+  parents = λ n z is. parents n z (at_either closed more (suc n) z is);
+}
+  where
+    closed : List Node
+    closed = changed (closed_by h at (length nodes)) nodes number
+    later : List Node
+    later = closed ++ more
+    kept : AreKept nodes later
+    kept = kept_with nodes closed more (kept_changed (closed_by h at (length nodes)) nodes number (λ x. refl))
+    same_count : length closed ≡ length nodes
+    same_count = length-changed (closed_by h at (length nodes)) nodes number
+    kept_closed : AreKeptClosed nodes later
+    kept_closed n x c is closing = by (changed_item (closed_by h at (length nodes)) nodes number n x is)
+      where
+        by : ((y : Node) × (slice_get closed n ≡ Some y) × ((y ≡ x) ⊎ ((n ≡ number) × (y ≡ closed_by h at (length nodes) x)))) → (z : Node) × IsAt later n z × (z.closing ≡ Some c)
+        by (y, is_y, inl e) = (y, at_kept closed more n y is_y, ap (λ (u : Node). u.closing) e ∙ closing)
+        by (y, is_y, inr e) =
+            let there : IsAt nodes number x = subst (λ (k : ℕ). IsAt nodes k x) e.0 is in
+            let own : node ≡ x = at_one nodes number node x is_node there in
+            let none : x.closing ≡ None = subst (λ (u : Node). u.closing ≡ None) own open_still in
+            let both : None ≡ Some c = sym none ∙ closing in
+            absurd (cc)
+    -- the nodes that were there
+    old : (n : ℕ) (z : Node) → slice_get closed n ≡ Some z → (x : Node) × IsAt nodes n x × ((z ≡ x) ⊎ ((n ≡ number) × (z ≡ closed_by h at (length nodes) x)))
+    old n z is = at_changed (closed_by h at (length nodes)) nodes number n z is
+    each : (n : ℕ) (z : Node) → (slice_get closed n ≡ Some z) ⊎ ((j : ℕ) × (n ≡ length closed + j) × (slice_get more j ≡ Some z)) → IsEndedRight d cuts later n z.region z.closing
+    each n z (inl is) = by (old n z is)
+      where
+        by : ((x : Node) × IsAt nodes n x × ((z ≡ x) ⊎ ((n ≡ number) × (z ≡ closed_by h at (length nodes) x)))) → IsEndedRight d cuts later n z.region z.closing
+        by (x, is_x, inl e) = subst (λ (u : Node). IsEndedRight d cuts later n u.region u.closing) (sym e)
+            (end_grown d cuts cuts nodes later n x.region x.closing kept (longer_same cuts) (t.each n x is_x))
+        by (x, is_x, inr e) =
+            let here : HasRegion nodes number x.region = record { node = x; is_node = subst (λ (k : ℕ). IsAt nodes k x) e.0 is_x; region_is = refl } in
+            let end : IsEnd d cuts later number x.region (length nodes) h = opened.ended x.region here in
+            subst (λ (u : Node). IsEndedRight d cuts later n u.region u.closing) (sym e.1) (subst (λ (k : ℕ). IsEnd d cuts later k x.region (length nodes) h) (sym e.0) end)
+    each n z (inr (j, place, is)) =
+        let f : (z.closing ≡ None) × IsInside root z.region × IsParent later number (length nodes + j) = opened.fresh j z is in
+        subst (λ (c : Option Closing). IsEndedRight d cuts later n z.region c) (sym f.0) tt
+    inside : (n : ℕ) (z : Node) → (slice_get closed n ≡ Some z) ⊎ ((j : ℕ) × (n ≡ length closed + j) × (slice_get more j ≡ Some z)) → IsInside root z.region
+    inside n z (inl is) = by (old n z is)
+      where
+        by : ((x : Node) × IsAt nodes n x × ((z ≡ x) ⊎ ((n ≡ number) × (z ≡ closed_by h at (length nodes) x)))) → IsInside root z.region
+        by (x, is_x, inl e) = subst (λ (u : Node). IsInside root u.region) (sym e) (t.inside n x is_x)
+        by (x, is_x, inr e) = subst (λ (u : Node). IsInside root u.region) (sym e.1) (t.inside n x is_x)
+    inside n z (inr (j, place, is)) =
+        let f : (z.closing ≡ None) × IsInside root z.region × IsParent later number (length nodes + j) = opened.fresh j z is in
+        f.1
+    parents : (n : ℕ) (z : Node) → (slice_get closed (suc n) ≡ Some z) ⊎ ((j : ℕ) × (suc n ≡ length closed + j) × (slice_get more j ≡ Some z)) → (m : ℕ) × IsParent later m (suc n)
+    parents n z (inl is) =
+        let o : (x : Node) × IsAt nodes (suc n) x × ((z ≡ x) ⊎ ((suc n ≡ number) × (z ≡ closed_by h at (length nodes) x))) = old (suc n) z is in
+        let p : (m : ℕ) × IsParent nodes m (suc n) = t.parents n o.0 o.1 in
+        (p.0, parent_kept nodes later p.0 (suc n) kept_closed p.1)
+    parents n z (inr (j, place, is)) =
+        let f : (z.closing ≡ None) × IsInside root z.region × IsParent later number (length nodes + j) = opened.fresh j z is in
+        let own : length nodes + j ≡ suc n = ap (λ k. k + j) (sym same_count) ∙ sym place in
+        (number, subst (IsParent later number) own f.2)
