@@ -1,12 +1,14 @@
 -- The tree is kept whole by each event.
-use Rattle.std.proofs.Common.{◌≡◌, refl, sym, ◌∙◌, ap, subst, ℕ, zero, suc, ◌+◌, ◌<◌, ◌≤◌, List, [], ◌∷◌, ◌++◌, length, inl, inr, arith, ℤ, pos, ◌+ℤ◌, ◌≤ℤ◌, ◌<ℤ◌, ints}
-use Rattle.std.specs.Prelude.{◌⊎◌, Option, Some, None, Bool, true, false, cond, take, set}
+use Rattle.std.proofs.Common.{◌≡◌, refl, sym, ◌∙◌, ap, subst, ℕ, zero, suc, ◌+◌, ◌<◌, ◌≤◌, List, [], ◌∷◌, ◌++◌, length, inl, inr, arith, ℤ, pos, ◌+ℤ◌, ◌≤ℤ◌, ◌<ℤ◌}
+use Rattle.std.proofs.lemmas.Int.{ints}
+use Rattle.std.specs.Prelude.{◌⊎◌, Option, Some, None, Bool, true, false, cond, is_none, take, set}
 use Rattle.std.specs.List.{slice_get}
 use Rattle.std.proofs.lemmas.List.{length-append, length-set}
 use Rattle.std.proofs.lemmas.Option.{slice_get_within}
 use Rattle.bz_model.specs.Points.{coordinate}
 use Rattle.bz_model.specs.Splits.{Decomposition}
 use Rattle.bz_cut.specs.declared.Cut.{Cut}
+use Rattle.bz_tree.specs.declared.Leaf.{Leaf}
 use Rattle.bz_tree.specs.Integers.{integer_at}
 use Rattle.bz_tree.specs.Leaves.{LeafHolds}
 use Rattle.bz_tree.specs.TreeFits.{FitsLeaf}
@@ -21,11 +23,11 @@ use Rattle.bz_core.specs.declared.state.Post.{Post}
 use Rattle.bz_core.specs.declared.state.Region.{Region}
 use Rattle.bz_core.specs.Histories.{IsReplay}
 use Rattle.bz_core.specs.States.{State, above, below, box_of, changed, changed_at, closed_by, effect, ended_by, freed_by, freed_where_live, is_live, is_open, live_of, opening, posted_by, side, sides_opened}
-use Rattle.bz_core.specs.Steps.{IsAt, IsCloseStep, IsClosing, IsSplitStep, MayFollow}
+use Rattle.bz_core.specs.Steps.{IsAt, IsClosing, IsLeafStep, IsSplitStep, MayFollow}
 use Rattle.bz_core.specs.Trees.{HasRegion, IsEnd, IsEndedRight, IsInside, IsLeafAt, IsParent, IsSplitAt, IsTree, TreesAreWhole}
 use Rattle.bz_core.proofs.Growing.{histories_grow}
-use Rattle.bz_core.proofs.Lists.{at_after, at_changed, at_either, at_kept, at_one, changed_item, length-changed}
-use Rattle.bz_core.proofs.PostSteps.{AreKept, IsLonger, kept_changed, kept_freed, kept_with, longer_same, longer_with}
+use Rattle.bz_core.proofs.Lists.{at_after, changed_here, at_changed, at_either, at_kept, at_one, changed_item, length-changed}
+use Rattle.bz_core.proofs.PostSteps.{AreKept, IsLonger, kept_changed, kept_freed, kept_same, kept_with, longer_same, longer_with}
 use Rattle.bz_core.proofs.SplitColumns.{splits_at}
 
 -- ---- nodes that stay as they are
@@ -262,3 +264,136 @@ tree_closed d root cuts nodes number at h node more is_node open_still opened t 
         let f : (z.closing ≡ None) × IsInside root z.region × IsParent later number (length nodes + j) = opened.fresh j z is in
         let own : length nodes + j ≡ suc n = ap (λ k. k + j) (sym same_count) ∙ sym place in
         (number, subst (IsParent later number) own f.2)
+
+-- ---- a split
+open_end : (o : Option Closing) → is_none o ≡ true → o ≡ None
+open_end None h = refl
+open_end (Some c) h = absurd (cc)
+
+-- the region of the node with this number
+own_region : (nodes : List Node) (number : ℕ) (node : Node) (region : Region) → IsAt nodes number node → HasRegion nodes number region → node.region ≡ region
+own_region nodes number node region is h = ap (λ (u : Node). u.region) (at_one nodes number node h.node is h.is_node) ∙ h.region_is
+
+-- the node is the parent of what comes after the nodes at the first two places
+parent_of : (nodes more : List Node) (number at front : ℕ) (basis : List ℕ) (position : ℕ) (value : ℤ) (node : Node) (n : ℕ) → IsAt nodes number node → (n ≡ length nodes) ⊎ (n ≡ suc (length nodes))
+    → IsParent (changed (closed_by (how.Split front basis position value) at (length nodes)) nodes number ++ more) number n
+parent_of nodes more number at front basis position value node n is side = record {
+  node = closed_by h at (length nodes) node;
+  is_node = at_kept (changed (closed_by h at (length nodes)) nodes number) more number (closed_by h at (length nodes) node) (changed_here (closed_by h at (length nodes)) nodes number node is);
+  closing = record { how = h; at = at; kids = length nodes };
+  closed = refl;
+  front = front;
+  basis = basis;
+  position = position;
+  value = value;
+  split = refl;
+  side = side;
+}
+  where
+    h : How
+    h = how.Split front basis position value
+
+split_opened : (d : Decomposition) (root : Region) (t : State) (number front : ℕ) (basis : List ℕ) (position : ℕ) (value : ℤ) (may : IsSplitStep d t number front basis position value) → IsTree d root t.cuts t.nodes
+    → IsOpened d root t.cuts t.nodes
+        (changed (closed_by (how.Split front basis position value) t.entries (length t.nodes)) t.nodes number ++ sides_opened d (length t.cuts) (how.Split front basis position value) (Some may.waiting))
+        number t.entries (how.Split front basis position value) (sides_opened d (length t.cuts) (how.Split front basis position value) (Some may.waiting))
+split_opened d root t number front basis position value may tree = record { ended = ended; fresh = fresh }
+  where
+    k : ℕ
+    k = integer_at d.model d.part position
+    w : Node
+    w = may.waiting
+    left : Node
+    left = side (length t.cuts) (below k value w.region)
+    right : Node
+    right = side (length t.cuts) (above k value w.region)
+    h : How
+    h = how.Split front basis position value
+    closed : List Node
+    closed = changed (closed_by h t.entries (length t.nodes)) t.nodes number
+    later : List Node
+    later = closed ++ left ∷ right ∷ []
+    count : length closed ≡ length t.nodes
+    count = length-changed (closed_by h t.entries (length t.nodes)) t.nodes number
+    ended : (region : Region) → HasRegion t.nodes number region → IsEnd d t.cuts later number region (length t.nodes) h
+    ended region here =
+        let same : w.region ≡ region = own_region t.nodes number w region may.waits.is_node here in
+        record {
+          later = slice_get_within t.nodes number w may.waits.is_node;
+          is_split = splits_at d.model d.part may.first.place position value may.first.inside may.first.position_is;
+          left = region_after closed (left ∷ right ∷ []) 0 (length t.nodes) left (below k value region) refl (omega (arith, count)) (ap (below k value) same);
+          right = region_after closed (left ∷ right ∷ []) 1 (suc (length t.nodes)) right (above k value region) refl (omega (arith, count)) (ap (above k value) same);
+        }
+    inside : IsInside root w.region
+    inside = tree.inside number w may.waits.is_node
+    fresh : (j : ℕ) (z : Node) → slice_get (left ∷ right ∷ []) j ≡ Some z → (z.closing ≡ None) × IsInside root z.region × IsParent later number (length t.nodes + j)
+    fresh zero z is =
+        let same : left ≡ z = cc in
+        (subst (λ (u : Node). u.closing ≡ None) same refl, subst (λ (u : Node). IsInside root u.region) same (inside_below root w.region k value may.below inside),
+            parent_of t.nodes (left ∷ right ∷ []) number t.entries front basis position value w (length t.nodes + 0) may.waits.is_node (inl (omega arith)))
+    fresh (suc zero) z is =
+        let same : right ≡ z = cc in
+        (subst (λ (u : Node). u.closing ≡ None) same refl, subst (λ (u : Node). IsInside root u.region) same (inside_above root w.region k value may.at_least inside),
+            parent_of t.nodes (left ∷ right ∷ []) number t.entries front basis position value w (length t.nodes + 1) may.waits.is_node (inr (omega arith)))
+    fresh (suc (suc j)) z is = absurd (cc)
+
+-- ---- a leaf
+leaf_opened : (d : Decomposition) (root : Region) (t : State) (number front : ℕ) (leaf : Leaf) → IsLeafStep d t number front leaf
+    → IsOpened d root t.cuts t.nodes (changed (closed_by (how.Leaf front leaf) t.entries (length t.nodes)) t.nodes number ++ []) number t.entries (how.Leaf front leaf) []
+leaf_opened d root t number front leaf may = record { ended = ended; fresh = λ j z is. absurd (cc) }
+  where
+    ended : (region : Region) → HasRegion t.nodes number region → IsLeafAt d t.cuts region front leaf
+    ended region here =
+        let same : may.node.region ≡ region = own_region t.nodes number may.node region may.is_node here in
+        record {
+          front_is = may.at_most;
+          holds = subst (λ (r : Region). LeafHolds d.model d.part (box_of r) (take front t.cuts) leaf) same may.holds;
+          fits = subst (λ (r : Region). FitsLeaf d.model d.part (box_of r) (take front t.cuts) leaf) same may.fits;
+        }
+
+-- ---- each event
+close_tree : (d : Decomposition) (root : Region) (t : State) (number : ℕ) (h : How) → IsClosing d t number h → IsTree d root t.cuts t.nodes
+    → IsTree d root t.cuts (changed (closed_by h t.entries (length t.nodes)) t.nodes number ++ sides_opened d (length t.cuts) h (slice_get t.nodes number))
+close_tree d root t number (how.Split front basis position value) may tree =
+    let h : How = how.Split front basis position value in
+    subst (λ (o : Option Node). IsTree d root t.cuts (changed (closed_by h t.entries (length t.nodes)) t.nodes number ++ sides_opened d (length t.cuts) h o)) (sym may.waits.is_node)
+        (tree_closed d root t.cuts t.nodes number t.entries h may.waiting (sides_opened d (length t.cuts) h (Some may.waiting)) may.waits.is_node (open_end may.waiting.closing may.waits.stands_open)
+            (split_opened d root t number front basis position value may tree) tree)
+close_tree d root t number (how.Leaf front leaf) may tree =
+    tree_closed d root t.cuts t.nodes number t.entries (how.Leaf front leaf) may.node [] may.is_node (open_end may.node.closing may.stands_open) (leaf_opened d root t number front leaf may) tree
+
+tree_step : (d : Decomposition) (budget : ℕ) (root : Region) (t : State) (e : Event) → MayFollow d budget t e → IsTree d root t.cuts t.nodes → IsTree d root (effect d t e).cuts (effect d t e).nodes
+tree_step d budget root t (event.Floor block basis cut) may h = tree_kept d root t.cuts (t.cuts ++ cut ∷ []) t.nodes t.nodes (kept_same t.nodes) (steady_same t.nodes) (closed_same t.nodes) (longer_with t.cuts (cut ∷ [])) h
+tree_step d budget root t (event.Ray block direction) may h = h
+tree_step d budget root t (event.Post node front point leaf) may h = tree_kept d root t.cuts t.cuts t.nodes (changed (posted_by (length t.posts)) t.nodes node)
+    (kept_changed (posted_by (length t.posts)) t.nodes node (λ x. refl)) (steady_changed (posted_by (length t.posts)) t.nodes node (λ x. refl) (λ x. refl)) (closed_changed (posted_by (length t.posts)) t.nodes node (λ x. refl)) (longer_same t.cuts) h
+tree_step d budget root t (event.Append post basis cut) may h = tree_kept d root t.cuts (t.cuts ++ cut ∷ []) t.nodes (freed_where_live (slice_get t.posts post) (length t.cuts) t.nodes)
+    (kept_freed (slice_get t.posts post) (length t.cuts) t.nodes) (steady_freed (slice_get t.posts post) (length t.cuts) t.nodes) (closed_freed (slice_get t.posts post) (length t.cuts) t.nodes) (longer_with t.cuts (cut ∷ [])) h
+tree_step d budget root t (event.Again post basis place) may h = tree_kept d root t.cuts t.cuts t.nodes (freed_where_live (slice_get t.posts post) place t.nodes)
+    (kept_freed (slice_get t.posts post) place t.nodes) (steady_freed (slice_get t.posts post) place t.nodes) (closed_freed (slice_get t.posts post) place t.nodes) (longer_same t.cuts) h
+tree_step d budget root t (event.Fill post block y) may h = h
+tree_step d budget root t (event.Incumbent post) may h = h
+tree_step d budget root t (event.Close number w) may h = close_tree d root t number w may.closing h
+tree_step d budget root t (event.Stop reason) may h = h
+
+-- ---- all histories
+le_same : (a : ℤ) → a ≤ℤ a
+le_same a = omega (arith, ints)
+
+begins : (d : Decomposition) (root : Region) → IsTree d root [] (side 0 root ∷ [])
+begins d root = record { first = record { node = side 0 root; is_node = refl; region_is = refl }; each = each; inside = inside; parents = λ n z is. absurd (cc) }
+  where
+    each : (n : ℕ) (z : Node) → IsAt (side 0 root ∷ []) n z → IsEndedRight d [] (side 0 root ∷ []) n z.region z.closing
+    each zero z is =
+        let same : side 0 root ≡ z = cc in
+        subst (λ (u : Node). IsEndedRight d [] (side 0 root ∷ []) 0 u.region u.closing) same tt
+    each (suc n) z is = absurd (cc)
+    inside : (n : ℕ) (z : Node) → IsAt (side 0 root ∷ []) n z → IsInside root z.region
+    inside zero z is =
+        let same : side 0 root ≡ z = cc in
+        subst (λ (u : Node). IsInside root u.region) same (record { lowers = refl; uppers = refl; lower = λ k. le_same (coordinate root.lower k); upper = λ k. le_same (coordinate root.upper k) })
+    inside (suc n) z is = absurd (cc)
+
+pub trees_are_whole : TreesAreWhole
+trees_are_whole d budget root es t r = histories_grow d budget root (λ es u. IsTree d root u.cuts u.nodes) (begins d root)
+    (λ before u x replayed step old. tree_step d budget root u x.event step.may old) es t r

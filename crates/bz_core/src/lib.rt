@@ -4,4 +4,4 @@
 mod laws;
 mod state;
 
-pub use laws::{counts_rise, pools_are_right, posts_are_right};
+pub use laws::{counts_rise, pools_are_right, posts_are_right, trees_are_whole};
