@@ -1,4 +1,5 @@
 //! What is true of every legal history.
+ghost use Rattle.bz_core.specs.Covers.{NothingBetterIsLost};
 ghost use Rattle.bz_core.specs.Histories.{CountsRise};
 ghost use Rattle.bz_core.specs.Pools.{PoolsAreRight};
 ghost use Rattle.bz_core.specs.Posts.{PostsAreRight};
@@ -25,4 +26,10 @@ pub fn posts_are_right()
 /// that holds over its own front.
 pub fn trees_are_whole()
     ensures { TreesAreWhole }
+{}
+
+/// Nothing better is lost: each feasible point that is better than the best post so far, or each where there is none, lies in
+/// the box of an open node.
+pub fn nothing_better_is_lost()
+    ensures { NothingBetterIsLost }
 {}
