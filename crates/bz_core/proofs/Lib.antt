@@ -1,3 +1,4 @@
+pub mod CoverSteps
 pub mod Growing
 pub mod Lists
 pub mod PoolSteps

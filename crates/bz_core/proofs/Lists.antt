@@ -1,5 +1,5 @@
 -- Lists with a changed item, and with one more.
-use Rattle.std.proofs.Common.{◌≡◌, refl, sym, ◌∙◌, ap, subst, ℕ, zero, suc, List, [], ◌∷◌, ◌++◌, length, inl, inr}
+use Rattle.std.proofs.Common.{◌≡◌, refl, sym, ◌∙◌, ap, subst, ℕ, zero, suc, ◌+◌, List, [], ◌∷◌, ◌++◌, length, inl, inr, arith}
 use Rattle.std.specs.Prelude.{◌⊎◌, Some, ◌<◌}
 use Rattle.std.specs.List.{AllByRecursion, slice_get}
 use Rattle.bz_core.specs.States.{changed, changed_at}
@@ -77,3 +77,35 @@ changed_item f (x' ∷ xs) (suc i) (suc k) x h = later (changed_item f xs i k x 
     later : ((z : _) × (slice_get (changed f xs i) k ≡ Some z) × ((z ≡ x) ⊎ ((k ≡ i) × (z ≡ f x)))) → (z : _) × (slice_get (changed f xs i) k ≡ Some z) × ((z ≡ x) ⊎ ((suc k ≡ suc i) × (z ≡ f x)))
     later (z, at, inl e) = (z, at, inl e)
     later (z, at, inr e) = (z, at, inr (ap suc e.0, e.1))
+
+-- the changed item stands at the place
+pub changed_here : {X : Type 0} (f : X → X) (xs : List X) (i : ℕ) (x : X) → slice_get xs i ≡ Some x → slice_get (changed f xs i) i ≡ Some (f x)
+changed_here f [] i x h = absurd (cc)
+changed_here f (y ∷ ys) zero x h =
+    let same : y ≡ x = cc in
+    ap (λ z. Some (f z)) same
+changed_here f (y ∷ ys) (suc i) x h = changed_here f ys i x h
+
+-- ---- lists after lists
+-- an item of two lists together is one of the first, or one of the second at what is left of its place
+pub at_either : {X : Type 0} (xs ys : List X) (k : ℕ) (e : X) → slice_get (xs ++ ys) k ≡ Some e → (slice_get xs k ≡ Some e) ⊎ ((j : ℕ) × (k ≡ length xs + j) × (slice_get ys j ≡ Some e))
+at_either [] ys k e h =
+    let place : k ≡ 0 + k = omega arith in
+    inr (k, place, h)
+at_either (x ∷ xs) ys zero e h = inl h
+at_either (x ∷ xs) ys (suc k) e h = later (at_either xs ys k e h)
+  where
+    later : (slice_get xs k ≡ Some e) ⊎ ((j : ℕ) × (k ≡ length xs + j) × (slice_get ys j ≡ Some e)) → (slice_get xs k ≡ Some e) ⊎ ((j : ℕ) × (suc k ≡ suc (length xs) + j) × (slice_get ys j ≡ Some e))
+    later (inl g) = inl g
+    later (inr (j, place, at)) =
+        let next : suc k ≡ suc (length xs) + j = omega arith in
+        inr (j, next, at)
+
+pub at_after : {X : Type 0} (xs ys : List X) (j : ℕ) (e : X) → slice_get ys j ≡ Some e → slice_get (xs ++ ys) (length xs + j) ≡ Some e
+at_after [] ys j e h =
+    let place : j ≡ 0 + j = omega arith in
+    subst (λ (k : ℕ). slice_get ys k ≡ Some e) place h
+at_after (x ∷ xs) ys j e h =
+    let rest : slice_get (xs ++ ys) (length xs + j) ≡ Some e = at_after xs ys j e h in
+    let place : suc (length xs) + j ≡ suc (length xs + j) = omega arith in
+    subst (λ (k : ℕ). slice_get (x ∷ (xs ++ ys)) k ≡ Some e) (sym place) rest

@@ -33,7 +33,7 @@ use Rattle.bz_core.proofs.PoolSteps.{IsEarly, IsPooled, early_of_next, pooled}
 abbrev pub AreKept : List Node → List Node → Type 0
 AreKept nodes later = (n : ℕ) (node : Node) → IsAt nodes n node → (x : Node) × IsAt later n x × (x.region ≡ node.region)
 
-kept_same : (nodes : List Node) → AreKept nodes nodes
+pub kept_same : (nodes : List Node) → AreKept nodes nodes
 kept_same nodes n node h = (node, h, refl)
 
 pub kept_changed : (f : Node → Node) (nodes : List Node) (i : ℕ) → ((x : Node) → (f x).region ≡ x.region) → AreKept nodes (changed f nodes i)
@@ -62,7 +62,7 @@ pub record IsLonger (cuts later : List Cut) : Type 0 where
   pub longer : length cuts ≤ length later
   pub front : (n : ℕ) → n ≤ length cuts → take n later ≡ take n cuts
 
-longer_same : (cuts : List Cut) → IsLonger cuts cuts
+pub longer_same : (cuts : List Cut) → IsLonger cuts cuts
 longer_same cuts = record { longer = omega arith; front = λ n h. refl }
 
 pub longer_with : (cuts more : List Cut) → IsLonger cuts (cuts ++ more)

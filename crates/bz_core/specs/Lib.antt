@@ -1,3 +1,4 @@
+pub mod Covers
 pub mod Histories
 pub mod Pools
 pub mod Posts

@@ -71,13 +71,13 @@ pub record IsParent (nodes : List Node) (m n : ℕ) : Type 0 where
 
 -- The nodes are one tree from the box of the whole model: each but the first is a side of one that came before, each that
 -- is split has its two sides, and each other that is closed has a leaf that holds.
-pub record IsTree (d : Decomposition) (root : Region) (t : State) : Type 0 where
-  pub first : HasRegion t.nodes 0 root
-  pub each : (n : ℕ) (node : Node) → IsAt t.nodes n node → IsEndedRight d t.cuts t.nodes n node.region node.closing
-  pub inside : (n : ℕ) (node : Node) → IsAt t.nodes n node → IsInside root node.region
-  pub parents : (n : ℕ) (node : Node) → IsAt t.nodes (suc n) node → (m : ℕ) × IsParent t.nodes m (suc n)
+pub record IsTree (d : Decomposition) (root : Region) (cuts : List Cut) (nodes : List Node) : Type 0 where
+  pub first : HasRegion nodes 0 root
+  pub each : (n : ℕ) (node : Node) → IsAt nodes n node → IsEndedRight d cuts nodes n node.region node.closing
+  pub inside : (n : ℕ) (node : Node) → IsAt nodes n node → IsInside root node.region
+  pub parents : (n : ℕ) (node : Node) → IsAt nodes (suc n) node → (m : ℕ) × IsParent nodes m (suc n)
 
 abbrev pub TreesAreWhole : Type 0
 TreesAreWhole =
     (d : Decomposition) (budget : ℕ) (root : Region) (es : List Entry) (t : State) → IsReplay d budget root es t →
-    IsTree d root t
+    IsTree d root t.cuts t.nodes

@@ -1,7 +1,9 @@
 //! What is true of every legal history.
+ghost use Rattle.bz_core.specs.Covers.{NothingBetterIsLost};
 ghost use Rattle.bz_core.specs.Histories.{CountsRise};
 ghost use Rattle.bz_core.specs.Pools.{PoolsAreRight};
 ghost use Rattle.bz_core.specs.Posts.{PostsAreRight};
+ghost use Rattle.bz_core.specs.Trees.{TreesAreWhole};
 
 /// The counts of each worker's stamps are 0, 1, 2 and on, each once and in order.
 pub fn counts_rise()
@@ -18,4 +20,16 @@ pub fn pools_are_right()
 /// the node by its value; and what fills a block completes it there.
 pub fn posts_are_right()
     ensures { PostsAreRight }
+{}
+
+/// The nodes are one tree from the box of the whole model: each split has its two sides, and each other closed node a leaf
+/// that holds over its own front.
+pub fn trees_are_whole()
+    ensures { TreesAreWhole }
+{}
+
+/// Nothing better is lost: each feasible point that is better than the best post so far, or each where there is none, lies in
+/// the box of an open node.
+pub fn nothing_better_is_lost()
+    ensures { NothingBetterIsLost }
 {}

@@ -4,4 +4,6 @@
 mod laws;
 mod state;
 
-pub use laws::{counts_rise, pools_are_right, posts_are_right};
+pub use laws::{
+    counts_rise, nothing_better_is_lost, pools_are_right, posts_are_right, trees_are_whole,
+};
