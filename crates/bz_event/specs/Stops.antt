@@ -32,7 +32,7 @@ use Rattle.bz_std.specs.Fitting.{IsWideCut, IsWideLeaf}
 use Rattle.bz_std.specs.LowestForms.{IsLowestOf}
 use Rattle.bz_std.specs.Meanings.{differences}
 use Rattle.bz_std.specs.Posed.{IsProgramOf}
-use Rattle.bz_std.specs.Stops.{IsFirstWideRow}
+use Rattle.bz_std.specs.Stops.{IsFirstWideRow, right_pairs_at}
 use Rattle.bz_std.specs.Tasks.{IsBoxOf, IsCutOfSplit, IsMasterOf, IsSeparationLp, floor, node, right_pairs}
 use Rattle.bz_event.specs.declared.answers.Solved.{Solved}
 use Rattle.bz_event.specs.declared.answers.TaskStop.{TaskStop}
@@ -167,10 +167,9 @@ pub record HasNoRows (lp : Lp) : Type 0 where
   pub rows : lp.rows ≡ []
 
 -- the sum of the right side of this row of the list is wide at the point
-abbrev pub IsWideRow : Master → List Ineq → ℕ → Type 0
-IsWideRow point [] row = ⊥
-IsWideRow point (i ∷ is) zero = ¬ IsNarrowSum (right_pairs point i)
-IsWideRow point (i ∷ is) (suc row) = IsWideRow point is row
+pub record IsWideRow (point : Master) (is : List Ineq) (row : ℕ) : Type 0 where
+  pub inside : row < length is
+  pub wide : ¬ IsNarrowSum (right_pairs_at point is row)
 
 -- a separation stops at a right side whose sum is wide, at a wide place of its relaxed program's solution, or at a wide
 -- sum of what the answer makes

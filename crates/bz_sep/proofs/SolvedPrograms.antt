@@ -26,9 +26,7 @@ use Rattle.bz_sep.specs.Outcomes.{Answers, unbuilt}
 
 -- the first wide right side is a wide one
 first_is_wide : (point : Master) (is : List Ineq) (row : ℕ) → IsFirstWideRow point is row → IsWideRow point is row
-first_is_wide point [] row h = h
-first_is_wide point (i ∷ is) zero h = h
-first_is_wide point (i ∷ is) (suc row) h = first_is_wide point is row h.1
+first_is_wide point is row h = record { inside = h.inside; wide = h.wide }
 
 module _ (m : Model) (part : List ℕ) (b : ℕ) (point : Master) (way : Mode) (lp : Lp) where
   -- ---- wide places of the solution
