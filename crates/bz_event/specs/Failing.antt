@@ -15,6 +15,12 @@ abbrev pub IsWideFault : CheckFault → Type 0
 IsWideFault (fault.Wide list at) = Unit {0}
 IsWideFault _ = ⊥
 
+-- a number is wide, or there is no memory: no test is broken
+abbrev pub IsNoBrokenTest : CheckFault → Type 0
+IsNoBrokenTest (fault.Wide list at) = Unit {0}
+IsNoBrokenTest fault.OutOfMemory = Unit {0}
+IsNoBrokenTest _ = ⊥
+
 -- each test holds but, it may be, those that a number isn't wide
 abbrev pub OthersHold : Tests → Type 0
 OthersHold [] = Unit {0}

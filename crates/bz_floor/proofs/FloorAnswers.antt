@@ -37,11 +37,11 @@ use Rattle.bz_std.proofs.PosedTasks.{floor_posed}
 use Rattle.bz_event.specs.declared.answers.FloorAnswer.{FloorAnswer}
 use Rattle.bz_event.specs.declared.tasks.TaskName.TheVariants as name
 use Rattle.bz_event.specs.Carried.{carried}
-use Rattle.bz_event.specs.Failing.{IsWideFault}
+use Rattle.bz_event.specs.Failing.{IsNoBrokenTest, IsWideFault}
 use Rattle.bz_event.specs.Floors.{IsFloorCut, IsFloorRay, SolvesFloor, placed}
 use Rattle.bz_event.specs.Stops.{EndsFloor, IsPrimitiveOf, IsWideInFloor}
 use Rattle.bz_event.proofs.OnlyWide.{first_fails, only_wide}
-use Rattle.bz_floor.specs.Outcomes.{Answers, Directs, IsNoBrokenTest, cut_answered, ray_answered}
+use Rattle.bz_floor.specs.Outcomes.{Answers, Directs, cut_answered, ray_answered}
 use Rattle.bz_floor.proofs.DirectionTests.{ray_others, wide_direction}
 use Rattle.bz_floor.proofs.PlacedRays.{is_falling_ray}
 use Rattle.bz_floor.proofs.Primitives.{falls_divided}

@@ -35,12 +35,6 @@ ray_answered basis column (Ok d) = Ok (answer.Ray d)
 ray_answered basis column (Err (fault.Wide list at)) = Err (wide_sum basis (Some column) list at)
 ray_answered basis column (Err _) = Err OutOfMemory
 
--- the fault names a wide number or want of memory
-abbrev pub IsNoBrokenTest : CheckFault → Type 0
-IsNoBrokenTest (fault.Wide list at) = Unit {0}
-IsNoBrokenTest fault.OutOfMemory = Unit {0}
-IsNoBrokenTest _ = ⊥
-
 -- ---- directions
 -- some of the first n numbers isn't 0
 abbrev pub IsMoving : ℕ → (ℕ → ℤ) → Type 0

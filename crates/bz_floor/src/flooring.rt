@@ -25,8 +25,8 @@ fn decomposed(split: &Split)
     let _blocks = split.blocks();
 }
 
-/// What the program of the floor comes to: the cut of a basis that shows a least cost, or a direction along which the cost
-/// falls.
+/// What the program of the floor comes to: the cut of a basis that shows a least cost, or a direction along which the
+/// cost falls.
 fn find_answer(
     alloc: Global,
     split: &Split,
@@ -55,9 +55,9 @@ fn find_answer(
     }
 }
 
-/// The floor of a block: a cut with a number above 0 at the block's eta, which no direction of the block falls below, or a
-/// direction along which none of the block's inequalities rises and its cost falls. Where a number goes wide it names the
-/// first such place. For want of memory there is no answer.
+/// The floor of a block: a cut with a number above 0 at the block's eta, where its cost has a least value along every
+/// direction, and else a direction along which none of its inequalities rises and its cost falls. Where a number goes
+/// wide it names the place. For want of memory there is no answer.
 pub fn floor(alloc: Global, split: &Split, block: u32) -> Result<Solved<FloorAnswer>, TaskStop>
     requires first { 0 < block }
     requires last { block ≤ blocks_of split.now.part }

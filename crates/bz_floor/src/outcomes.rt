@@ -1,6 +1,7 @@
 //! What was made of a basis's answer, in the words of a program's solution.
 ghost use Rattle.std.specs.Prelude.{◌≡◌, IfErr};
-ghost use Rattle.bz_floor.specs.Outcomes.{IsNoBrokenTest, cut_answered, ray_answered, wide_sum};
+ghost use Rattle.bz_event.specs.Failing.{IsNoBrokenTest};
+ghost use Rattle.bz_floor.specs.Outcomes.{cut_answered, ray_answered, wide_sum};
 
 use bz_cut::Cut;
 use bz_event::FloorAnswer;

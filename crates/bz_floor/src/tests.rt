@@ -1,6 +1,6 @@
 //! Floors of a block of one column. The model has an integer x from 0 to 1 in the master and a y in block 1, with a row
-//! `a x + y >= 1`, where it has a side, and the cost `2 x + 3 y`. The answers were worked out by floors.py beside src/: the
-//! block's inequalities are the row's and then y's upper and lower bound.
+//! `a x + y >= 1`, where it has a side, and the cost `2 x + 3 y`. The answers were worked out by floors.py beside src/:
+//! the block's inequalities are the row's and then y's upper and lower bound.
 ghost use Rattle.std.specs.Prelude.{◌≡◌, ◌<ℤ◌, ◌∷◌, [], IfOk, pos};
 ghost use Rattle.std.specs.Option.{ForSome};
 ghost use Rattle.bz_algebra.specs.Numbers.{IsNarrow};
@@ -134,14 +134,14 @@ fn found_cut(found: &Result<Solved<FloorAnswer>, TaskStop>) -> Option<&Cut> {
     }
 }
 
-/// The direction of the floor of block 1.
-fn found_ray(found: &Result<Solved<FloorAnswer>, TaskStop>) -> Option<&[i128]> {
+/// Whether the floor of block 1 is the direction of one number.
+fn is_ray(found: &Result<Solved<FloorAnswer>, TaskStop>, step: i128) -> bool {
     match found {
         Ok(solved) => match &solved.answer {
-            FloorAnswer::Floor { .. } => None,
-            FloorAnswer::Ray { d } => Some(d.as_slice()),
+            FloorAnswer::Floor { .. } => false,
+            FloorAnswer::Ray { d } => d.as_slice() == [step].as_slice(),
         },
-        Err(_) => None,
+        Err(_) => false,
     }
 }
 
@@ -232,14 +232,14 @@ fn rays_go_where_the_cost_falls(rt: HostRuntime) -> Result<(), Fail> {
         ..one()
     };
     let first = split(rt.alloc(), &rising)?;
-    assert_eq!(rt; found_ray(&floor(rt.alloc(), &first, 1)), Some([1].as_slice()));
+    assert!(rt; is_ray(&floor(rt.alloc(), &first, 1), 1));
     let free = Link {
         at_least: None,
         lower: None,
         ..one()
     };
     let second = split(rt.alloc(), &free)?;
-    assert_eq!(rt; found_ray(&floor(rt.alloc(), &second, 1)), Some([-1].as_slice()));
+    assert!(rt; is_ray(&floor(rt.alloc(), &second, 1), -1));
     Ok(())
 }
 

@@ -55,9 +55,14 @@ module _ (m : Model) (part : List ℕ) (d : IsDecomposed m part) (b : ℕ) (poin
 
   -- a multiplier for each inequality, and in mode Cost one for the cost
   pub multipliers_count : length (inequalities_of m part b) + cost_rows way ≤ length y.num
-  multipliers_count = omega (arith, l.multipliers, (has_lines q lp s.program).count,
-      length-append (map (own_line point) (inequalities_of m part b)) (cost_lines m part point b way),
-      length-map (inequalities_of m part b) (own_line point), count_of way)
+  multipliers_count = omega (
+    arith,
+    l.multipliers,
+    (has_lines q lp s.program).count,
+    length-append (map (own_line point) (inequalities_of m part b)) (cost_lines m part point b way),
+    length-map (inequalities_of m part b) (own_line point),
+    count_of way,
+  )
 
   module _ (r : (pos 0) <ℤ (entry z.num (2 * width_of part b))) where
     pub makes_some : IsNoCut m part b (entry y.num) raw → ⊥
@@ -78,10 +83,18 @@ module _ (m : Model) (part : List ℕ) (d : IsDecomposed m part) (b : ℕ) (poin
 
     pub cut_answers : (made : Result Cut MakeStop) → IfOk made (IsFittingCut m part b (entry y.num) raw) → IfErr made (StopsFitting m part b (entry y.num) raw) → Answers m part b point way lp (cut_answered basis made)
     cut_answers (Ok cut) h k = (s, is_cut_answer cut h)
-    cut_answers (Err make.Wide) h k = ((s, refl, refl, record {
-      z = z;
-      y = y;
-      least = l;
-      sum = inl (record { rises = r; list_is = refl; at_is = refl; wide = k });
-    }), tt)
+    cut_answers (Err make.Wide) h k = (
+      (
+        s,
+        refl,
+        refl,
+        record {
+          z = z;
+          y = y;
+          least = l;
+          sum = inl (record { rises = r; list_is = refl; at_is = refl; wide = k });
+        },
+      ),
+      tt,
+    )
     cut_answers (Err make.OutOfMemory) h k = tt

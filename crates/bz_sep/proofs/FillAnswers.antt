@@ -31,11 +31,11 @@ use Rattle.bz_std.specs.Meanings.{MeetsWithin, differences}
 use Rattle.bz_std.specs.NumberLists.{HasNumbers}
 use Rattle.bz_std.specs.Tasks.{IsSeparationLp, separation}
 use Rattle.bz_std.proofs.LowestForms.{block_holds, low_positive, rows_hold}
-use Rattle.bz_event.specs.Failing.{IsWideFault, OthersHold}
+use Rattle.bz_event.specs.Failing.{IsNoBrokenTest, IsWideFault, OthersHold}
 use Rattle.bz_event.specs.Separations.{CompletesCost, IsFillAnswer}
 use Rattle.bz_event.specs.Stops.{fill_tests}
 use Rattle.bz_event.proofs.OnlyWide.{first_fails, only_wide, others_joined, others_numbered}
-use Rattle.bz_sep.specs.Outcomes.{Answers, Fills, IsNoBrokenTest, fill_answered}
+use Rattle.bz_sep.specs.Outcomes.{Answers, Fills, fill_answered}
 
 -- a list of narrow numbers
 pub all_narrow : (xs : List ℤ) → AreNarrow xs → AllByRecursion IsNarrow xs
@@ -49,7 +49,7 @@ module _ (m : Model) (part : List ℕ) (d : IsDecomposed m part) (b : ℕ) (poin
   block_others h = (
     inl tt,
     others_numbered (in_block_tests point b fill) (HoldsInBlock point fill) 0 (inequalities_of m part b)
-    (λ e k. (inl tt, (inl tt, (inl tt, (inl tt, (inr k, tt)))))) h,
+        (λ e k. (inl tt, (inl tt, (inl tt, (inl tt, (inr k, tt)))))) h,
   )
 
   cost_others : BlockHolds m part point b fill → OthersHold (cost_tests m part point (b, fill))

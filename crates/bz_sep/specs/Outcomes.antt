@@ -51,12 +51,6 @@ fill_answered basis (Ok fill) = Ok (answer.Fill fill)
 fill_answered basis (Err (fault.Wide list at)) = Err (wide_sum basis list at)
 fill_answered basis (Err _) = Err OutOfMemory
 
--- the fault names a wide number or want of memory
-abbrev pub IsNoBrokenTest : CheckFault → Type 0
-IsNoBrokenTest (fault.Wide list at) = Unit {0}
-IsNoBrokenTest fault.OutOfMemory = Unit {0}
-IsNoBrokenTest _ = ⊥
-
 -- ---- what is right
 -- the fill is an answer, or the wide number is one of the fill that z makes
 abbrev pub Fills : Model → List ℕ → ℕ → Master → Mode → Vals → Result BlockPart CheckFault → Type 0

@@ -20,16 +20,12 @@ use bz_tableau::Vals;
 use std::alloc::Global;
 
 /// The block's part that the columns' numbers z state, in lowest form.
-fn lowest_fill(
-    alloc: Global,
-    split: &Split,
-    block: u32,
-    z: &Vals,
-) -> Result<BlockPart, OutOfMemory>
+fn lowest_fill(alloc: Global, split: &Split, block: u32, z: &Vals) -> Result<BlockPart, OutOfMemory>
     requires last { block ≤ blocks_of split.now.part }
     requires inside { 2 * width_of split.now.part block ≤ length z.now.num }
     requires nonnegative { (j : ℕ) → j < length z.now.num → pos 0 ≤ℤ entry z.now.num j }
-    ensures { IfOk result (λ fill. IsLowestOf (width_of split.now.part block) z.now.den (differences_of (entry z.now.num)) fill.times fill.y) }
+    ensures { IfOk result (λ fill.
+        IsLowestOf (width_of split.now.part block) z.now.den (differences_of (entry z.now.num)) fill.times fill.y) }
 {
     let numbers = differences(alloc, z.num.as_slice(), split.width(block))?;
     let (times, y) = lowest(numbers.into_vec(), z.den);
@@ -42,7 +38,8 @@ fn judge_fill(split: &Split, task: &SepTask, fill: &BlockPart) -> Result<(), Che
     requires last { task.now.block ≤ blocks_of split.now.part }
     requires point { IsMasterOf split.now.part task.now.point }
     requires y { length fill.now.y ≡ width_of split.now.part task.now.block }
-    ensures { Judges (fill_tests split.now.model split.now.part task.now.block task.now.point task.now.mode fill.now) result }
+    ensures { Judges
+        (fill_tests split.now.model split.now.part task.now.block task.now.point task.now.mode fill.now) result }
 {
     judge_block(split, &task.point, task.block, fill)?;
     match task.mode {
@@ -66,7 +63,9 @@ pub(crate) fn judged_fill(
     requires inside { 2 * width_of split.now.part task.now.block ≤ length z.now.num }
     requires nonnegative { (j : ℕ) → j < length z.now.num → pos 0 ≤ℤ entry z.now.num j }
     requires stays { entry z.now.num (2 * width_of split.now.part task.now.block) ≡ pos 0 }
-    requires meets { MeetsWithin (separation split.now.model split.now.part task.now.point task.now.block task.now.mode) (differences_of (entry z.now.num)) z.now.den (pos 0) }
+    requires meets { MeetsWithin
+        (separation split.now.model split.now.part task.now.point task.now.block task.now.mode)
+        (differences_of (entry z.now.num)) z.now.den (pos 0) }
     ensures { Fills split.now.model split.now.part task.now.block task.now.point task.now.mode z.now result }
 {
     let fill = lowest_fill(alloc, split, task.block, z)?;

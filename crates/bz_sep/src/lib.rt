@@ -1,5 +1,5 @@
-//! Separations: whether a point of the master can be completed in a block. The answer is a cut that cuts the point off, or
-//! the block's part of a completion; where a number is wide, it is named where.
+//! Separations: whether a point of the master can be completed in a block. The answer is a cut that cuts the point off,
+//! or the block's part of a completion; where a number is wide, it is named where.
 //!
 //! This crate knows no search, no tree and no other worker.
 #![tactic(auto)]

@@ -1,7 +1,8 @@
 //! What was made of a basis's answer, in the words of a program's solution.
 ghost use Rattle.std.specs.Prelude.{◌≡◌, IfErr};
+ghost use Rattle.bz_event.specs.Failing.{IsNoBrokenTest};
 ghost use Rattle.bz_event.specs.Stops.{IsNoProgram};
-ghost use Rattle.bz_sep.specs.Outcomes.{IsNoBrokenTest, cut_answered, fill_answered, unbuilt, wide_sum};
+ghost use Rattle.bz_sep.specs.Outcomes.{cut_answered, fill_answered, unbuilt, wide_sum};
 
 use bz_cut::Cut;
 use bz_event::SepAnswer;
@@ -47,7 +48,10 @@ fn wide_of(basis: Items<u32>, list: u32, at: u32) -> LpStop
 }
 
 /// The cut that was made, with its basis.
-pub(crate) fn cut_answer(basis: Items<u32>, made: Result<Cut, MakeStop>) -> Result<SepAnswer, LpStop>
+pub(crate) fn cut_answer(
+    basis: Items<u32>,
+    made: Result<Cut, MakeStop>,
+) -> Result<SepAnswer, LpStop>
     ensures { result ≡ cut_answered basis made }
 {
     match made {
@@ -58,7 +62,10 @@ pub(crate) fn cut_answer(basis: Items<u32>, made: Result<Cut, MakeStop>) -> Resu
 }
 
 /// The fill that was made, or its wide sum with the basis.
-pub(crate) fn fill_answer(basis: Items<u32>, filled: Result<BlockPart, CheckFault>) -> Result<SepAnswer, LpStop>
+pub(crate) fn fill_answer(
+    basis: Items<u32>,
+    filled: Result<BlockPart, CheckFault>,
+) -> Result<SepAnswer, LpStop>
     requires { IfErr filled IsNoBrokenTest }
     ensures { result ≡ fill_answered basis filled }
 {

@@ -27,16 +27,12 @@ fn least_rise(lp: &Lp, z: &Vals) -> i128
 }
 
 /// What the program of the separation comes to: with a least rise above 0 the cut of the basis, else the block's part.
-fn find_answer(
-    alloc: Global,
-    split: &Split,
-    task: &SepTask,
-    lp: &Lp,
-) -> Result<SepAnswer, LpStop>
+fn find_answer(alloc: Global, split: &Split, task: &SepTask, lp: &Lp) -> Result<SepAnswer, LpStop>
     requires first { 0 < task.now.block }
     requires last { task.now.block ≤ blocks_of split.now.part }
     requires point { IsMasterOf split.now.part task.now.point }
-    requires program { IsSeparationLp split.now.model split.now.part task.now.point task.now.block task.now.mode lp.now }
+    requires program { IsSeparationLp
+        split.now.model split.now.part task.now.point task.now.block task.now.mode lp.now }
     requires is_lp { IsLp lp.now }
     ensures { Answers split.now.model split.now.part task.now.block task.now.point task.now.mode lp.now result }
 {
@@ -70,19 +66,17 @@ fn solve_program(alloc: Global, split: &Split, task: &SepTask) -> (Lp, Result<Se
     }
 }
 
-/// The separation of a block at a posted point: the cut that cuts the point off where it has no completion in the block,
-/// in mode Cost at a cost of at most its eta, and else the block's part of a completion. Where a number goes wide it
-/// names the first such place. For want of memory there is no answer.
-pub fn separate(
-    alloc: Global,
-    split: &Split,
-    task: &SepTask,
-) -> Result<Solved<SepAnswer>, TaskStop>
+/// The separation of a block at a posted point: the cut that cuts the point off where it has no completion in the
+/// block, in mode Cost at a cost of at most its eta, and else the block's part of a completion. Where a number goes
+/// wide it names the place. For want of memory there is no answer.
+pub fn separate(alloc: Global, split: &Split, task: &SepTask) -> Result<Solved<SepAnswer>, TaskStop>
     requires first { 0 < task.now.block }
     requires last { task.now.block ≤ blocks_of split.now.part }
     requires point { IsMasterOf split.now.part task.now.point }
-    ensures solved { IfOk result (SolvesSeparation split.now.model split.now.part task.now.post task.now.block task.now.point task.now.mode) }
-    ensures stopped { IfErr result (EndsSeparation split.now.model split.now.part task.now.post task.now.block task.now.point task.now.mode) }
+    ensures solved { IfOk result (SolvesSeparation
+        split.now.model split.now.part task.now.post task.now.block task.now.point task.now.mode) }
+    ensures stopped { IfErr result (EndsSeparation
+        split.now.model split.now.part task.now.post task.now.block task.now.point task.now.mode) }
 {
     let point = task.point.copy(alloc)?;
     let (lp, found) = solve_program(alloc, split, task);

@@ -1,6 +1,7 @@
-//! Separations of a block of one column. The model has an integer x from 0 to 1 in the master and a y in block 1, with a row
-//! `a x + y` between its sides and the cost `2 x + 3 y`. The answers were worked out with fractions, by separations.py
-//! beside src/: the block's inequalities are the row's upper and lower side and then y's upper and lower bound.
+//! Separations of a block of one column. The model has an integer x from 0 to 1 in the master and a y in block 1, with
+//! a row `a x + y` between its sides and the cost `2 x + 3 y`. The answers were worked out with fractions, by
+//! separations.py beside src/: the block's inequalities are the row's upper and lower side and then y's upper and lower
+//! bound.
 ghost use Rattle.std.specs.Prelude.{◌≡◌, ◌<ℤ◌, ◌∷◌, [], IfOk, pos};
 ghost use Rattle.std.specs.Option.{ForSome};
 ghost use Rattle.bz_algebra.specs.Numbers.{IsNarrow};
@@ -143,11 +144,19 @@ enum Wanted {
         mu: (i128, i128),
     },
     /// The block's number y over `times`.
-    Fill { times: i128, y: i128 },
+    Fill {
+        times: i128,
+        y: i128,
+    },
     /// A wide right side of this row.
-    Build { row: u32 },
+    Build {
+        row: u32,
+    },
     /// A wide sum, by its list and its place there.
-    Sum { list: u32, at: u32 },
+    Sum {
+        list: u32,
+        at: u32,
+    },
 }
 
 fn is_cut(cut: &Cut, wanted: Wanted) -> bool {

@@ -24,7 +24,8 @@ pub record IsWideCut (m : Model) (part : List ℕ) (b : ℕ) (y : ℕ → ℤ) (
   pub narrow : IsNarrow raw
   pub wide : ¬ FitsCut m part (bare b mu raw narrow)
 
--- the cut of block b that the multipliers y make, with raw at its eta, is valid, with no sum or product wide that tells so
+-- the cut of block b that the multipliers y make, with raw at its eta, is valid, with no sum or product wide that tells
+-- so
 pub record IsFittingCut (m : Model) (part : List ℕ) (b : ℕ) (y : ℕ → ℤ) (raw : ℤ) (cut : Cut) : Type 0 where
   pub made : IsCutFrom m part b y raw cut
   pub valid : IsValid m part cut
