@@ -1,4 +1,6 @@
+pub mod BestSteps
 pub mod CoverSteps
+pub mod FinishedSearches
 pub mod Growing
 pub mod Lists
 pub mod PoolSteps

@@ -1,4 +1,5 @@
 pub mod Covers
+pub mod Finished
 pub mod Histories
 pub mod Pools
 pub mod Posts

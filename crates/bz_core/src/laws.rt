@@ -1,5 +1,6 @@
 //! What is true of every legal history.
 ghost use Rattle.bz_core.specs.Covers.{NothingBetterIsLost};
+ghost use Rattle.bz_core.specs.Finished.{FinishedSearchesAreTrue};
 ghost use Rattle.bz_core.specs.Histories.{CountsRise};
 ghost use Rattle.bz_core.specs.Pools.{PoolsAreRight};
 ghost use Rattle.bz_core.specs.Posts.{PostsAreRight};
@@ -32,4 +33,10 @@ pub fn trees_are_whole()
 /// the box of an open node.
 pub fn nothing_better_is_lost()
     ensures { NothingBetterIsLost }
+{}
+
+/// Where no node is open, a search without a best post shows that no point is feasible, and in mode Cost each point of the
+/// best post's parts is optimal.
+pub fn finished_searches_are_true()
+    ensures { FinishedSearchesAreTrue }
 {}

@@ -5,5 +5,6 @@ mod laws;
 mod state;
 
 pub use laws::{
-    counts_rise, nothing_better_is_lost, pools_are_right, posts_are_right, trees_are_whole,
+    counts_rise, finished_searches_are_true, nothing_better_is_lost, pools_are_right,
+    posts_are_right, trees_are_whole,
 };
