@@ -94,7 +94,7 @@ post_shape d way nodes post cuts h filled = record {
     one_more : (b : ℕ) → suc b ≡ 1 + b
     one_more b = omega arith
 
-post_feasible : (d : Decomposition) (root : Region) (way : Mode) (t : State) (post : Post) → IsTree d root t.cuts t.nodes → Rattle.bz_tree.specs.Boxes.IsRootBox d.model (box_of root) → IsPostOf d way t.nodes t.cuts post → IsFilled post → AreFeasible d.model d.part (parts_of post)
+pub post_feasible : (d : Decomposition) (root : Region) (way : Mode) (t : State) (post : Post) → IsTree d root t.cuts t.nodes → Rattle.bz_tree.specs.Boxes.IsRootBox d.model (box_of root) → IsPostOf d way t.nodes t.cuts post → IsFilled post → AreFeasible d.model d.part (parts_of post)
 post_feasible d root way t post tree is_root h filled = record {
   shape = record { point = post_shape d way t.nodes post t.cuts h filled; eta = h.posted.shape.eta };
   master = h.posted.rows;

@@ -5,6 +5,7 @@ pub mod Growing
 pub mod Lists
 pub mod PoolSteps
 pub mod PostSteps
+pub mod RaySteps
 pub mod SplitColumns
 pub mod Stamps
 pub mod TreeSteps

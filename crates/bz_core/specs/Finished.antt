@@ -6,7 +6,7 @@ use Rattle.bz_model.specs.declared.BlockPart.{BlockPart}
 use Rattle.bz_model.specs.declared.Parts.{Parts}
 use Rattle.bz_model.specs.Decomposed.{IsDecomposed}
 use Rattle.bz_model.specs.PartPoints.{HasPointShape, IsPointOf}
-use Rattle.bz_model.specs.Points.{IsInfeasible, IsOptimal, objective}
+use Rattle.bz_model.specs.Points.{IsInfeasible, IsOptimal, IsUnbounded, objective}
 use Rattle.bz_model.specs.Splits.{Decomposition}
 use Rattle.bz_model.specs.Stated.{objective_of}
 use Rattle.bz_cut.specs.declared.Mode.TheVariants as mode
@@ -47,3 +47,9 @@ abbrev pub FinishedSearchesAreTrue : Type 0
 FinishedSearchesAreTrue =
     (d : Decomposition) (budget : ℕ) (root : Region) (es : List Entry) (t : State) → IsDecomposed d.model d.part →
     IsReplay d budget root es t → list_any is_open t.nodes ≡ false → FinishedIsTrue d t
+
+-- In mode Point a best post shows that the model is unbounded.
+abbrev pub RaysAreTrue : Type 0
+RaysAreTrue =
+    (d : Decomposition) (budget : ℕ) (root : Region) (es : List Entry) (t : State) → IsDecomposed d.model d.part →
+    IsReplay d budget root es t → mode_of t ≡ mode.Point → (post : Post) → IsBest t post → IsUnbounded d.model

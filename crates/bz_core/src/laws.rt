@@ -1,6 +1,6 @@
 //! What is true of every legal history.
 ghost use Rattle.bz_core.specs.Covers.{NothingBetterIsLost};
-ghost use Rattle.bz_core.specs.Finished.{FinishedSearchesAreTrue};
+ghost use Rattle.bz_core.specs.Finished.{FinishedSearchesAreTrue, RaysAreTrue};
 ghost use Rattle.bz_core.specs.Histories.{CountsRise};
 ghost use Rattle.bz_core.specs.Pools.{PoolsAreRight};
 ghost use Rattle.bz_core.specs.Posts.{PostsAreRight};
@@ -39,4 +39,9 @@ pub fn nothing_better_is_lost()
 /// best post's parts is optimal.
 pub fn finished_searches_are_true()
     ensures { FinishedSearchesAreTrue }
+{}
+
+/// In mode Point a best post shows that the model is unbounded.
+pub fn rays_are_true()
+    ensures { RaysAreTrue }
 {}

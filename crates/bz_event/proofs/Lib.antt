@@ -1,1 +1,2 @@
 pub mod OnlyWide
+pub mod PlacedRays

@@ -7,9 +7,11 @@
 mod answers;
 mod carrying;
 mod events;
+mod laws;
 mod tasks;
 
 pub use answers::{FloorAnswer, NodeAnswer, SepAnswer, Solved, TaskStop};
 pub use carrying::carry;
 pub use events::{Entry, Event, How, Stamp, Why};
+pub use laws::rays_fall_in_the_model;
 pub use tasks::{NodeTask, SepTask, TaskName};

@@ -43,7 +43,7 @@ use Rattle.bz_event.specs.Stops.{EndsFloor, IsPrimitiveOf, IsWideInFloor}
 use Rattle.bz_event.proofs.OnlyWide.{first_fails, only_wide}
 use Rattle.bz_floor.specs.Outcomes.{Answers, Directs, cut_answered, ray_answered}
 use Rattle.bz_floor.proofs.DirectionTests.{ray_others, wide_direction}
-use Rattle.bz_floor.proofs.PlacedRays.{is_falling_ray}
+use Rattle.bz_event.proofs.PlacedRays.{is_falling_ray}
 use Rattle.bz_floor.proofs.Primitives.{falls_divided}
 
 -- ---- the cut

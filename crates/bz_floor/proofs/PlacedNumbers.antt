@@ -7,7 +7,7 @@ use Rattle.bz_model.specs.Parting.{column_at, part_of, position_of, width_of}
 use Rattle.bz_model.specs.Points.{coordinate}
 use Rattle.bz_model.proofs.Positions.{column_at_is, column_of_position_in, position_within_part}
 use Rattle.bz_event.specs.Floors.{placed}
-use Rattle.bz_floor.proofs.PlacedRays.{length-placed, placed_here, placed_there}
+use Rattle.bz_event.proofs.PlacedRays.{length-placed, placed_here, placed_there}
 
 -- the first i numbers stand at their columns, and 0 elsewhere
 pub record IsPlacedTo (part : List ℕ) (b : ℕ) (d : List ℤ) (i : ℕ) (ray : List ℤ) : Type 0 where

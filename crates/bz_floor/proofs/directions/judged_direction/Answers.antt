@@ -5,7 +5,7 @@ use Rattle.bz_judge.specs.RayTests.{ray_tests}
 use Rattle.bz_std.specs.Meanings.{differences}
 use Rattle.bz_event.specs.Floors.{placed}
 use Rattle.bz_floor.proofs.FloorAnswers.{directs_passed, is_floor_ray, is_wide_ray}
-use Rattle.bz_floor.proofs.PlacedRays.{length-placed}
+use Rattle.bz_event.proofs.PlacedRays.{length-placed}
 use Rattle.bz_floor.proofs.Primitives.{falls_move}
 use Rattle.bz_floor.proofs.directions.judged_direction.Goals as goal
 

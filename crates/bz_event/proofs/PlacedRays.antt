@@ -30,6 +30,7 @@ use Rattle.bz_std.specs.Tasks.{falling_line, floor}
 use Rattle.bz_std.proofs.ListFacts.{all_from_mapped}
 use Rattle.bz_std.proofs.PosedTasks.{part_fits}
 use Rattle.bz_event.specs.Floors.{placed}
+use Rattle.bz_event.specs.Laws.{RaysFallInTheModel}
 
 -- ---- the numbers of the placed direction
 abbrev pub number_of : List ℕ → ℕ → List ℤ → ℕ × ℕ → ℤ
@@ -183,3 +184,6 @@ module _ (m : Model) (part : List ℕ) (s : IsDecomposed m part) (b : ℕ) (firs
     columns = columns_allow;
     cost = omega (arith, ints, f.cost, cost_is);
   }
+
+pub floor_ray_falls : RaysFallInTheModel
+floor_ray_falls m part b d s first last h = is_falling_ray m part s b first last d h.falls
