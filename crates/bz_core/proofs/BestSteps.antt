@@ -1,8 +1,7 @@
 -- The best post stays completed.
-use Rattle.std.proofs.Common.{◌≡◌, refl, sym, ◌∙◌, ap, subst, ℕ, zero, suc, ◌-◌, List, [], ◌∷◌, ◌++◌, inl, inr}
+use Rattle.std.proofs.Common.{◌≡◌, refl, sym, ◌∙◌, subst, ℕ, zero, suc, ◌-◌, List, [], ◌∷◌, ◌++◌, inl, inr}
 use Rattle.std.specs.Prelude.{◌⊎◌, Option, Some, None, is_some, set, true}
 use Rattle.std.specs.List.{AllByRecursion, slice_get}
-use Rattle.bz_model.specs.declared.BlockPart.{BlockPart}
 use Rattle.bz_model.specs.Splits.{Decomposition}
 use Rattle.bz_event.specs.declared.events.Entry.{Entry}
 use Rattle.bz_event.specs.declared.events.Event.{Event}
@@ -12,7 +11,7 @@ use Rattle.bz_core.specs.declared.state.Post.{Post}
 use Rattle.bz_core.specs.declared.state.Region.{Region}
 use Rattle.bz_core.specs.Finished.{BestIsFilled}
 use Rattle.bz_core.specs.Histories.{IsReplay}
-use Rattle.bz_core.specs.States.{State, changed, changed_at, effect, ended_by, filled_by, live_of, opening, posted_point}
+use Rattle.bz_core.specs.States.{State, changed, changed_at, effect, ended_by, filled_by, live_of, posted_point}
 use Rattle.bz_core.specs.Steps.{IsAt, IsFilled, MayFollow}
 use Rattle.bz_core.proofs.Growing.{histories_grow}
 use Rattle.bz_core.proofs.Lists.{at_kept, changed_item}

@@ -1,5 +1,5 @@
 -- Nothing better is lost by any event.
-use Rattle.std.proofs.Common.{◌≡◌, refl, sym, ◌∙◌, ap, subst, ℕ, zero, suc, ◌+◌, ◌<◌, ◌≤◌, List, [], ◌∷◌, ◌++◌, length, inl, inr, arith, ℤ, pos, ◌+ℤ◌, ◌*ℤ◌, ◌≤ℤ◌, ◌<ℤ◌}
+use Rattle.std.proofs.Common.{◌≡◌, refl, sym, ◌∙◌, ap, subst, ℕ, zero, suc, ◌+◌, ◌<◌, List, [], ◌∷◌, ◌++◌, length, inl, inr, arith, ℤ, pos, ◌+ℤ◌, ◌*ℤ◌, ◌≤ℤ◌, ◌<ℤ◌}
 use Rattle.std.proofs.lemmas.Int.{ints}
 use Rattle.std.specs.Prelude.{◌⊎◌, Option, Some, None, ◌&&◌, ◌||◌, Bool, true, false, cond, is_none, is_some, not, take}
 use Rattle.std.specs.List.{AllByRecursion, list_any, slice_get}
@@ -23,7 +23,6 @@ use Rattle.bz_tree.specs.Integers.{integer_at}
 use Rattle.bz_tree.proofs.SplitBoxes.{in_a_side}
 use Rattle.bz_pass.proofs.LeavesHold.{leaf_bounds, leaf_empties}
 use Rattle.bz_pass.proofs.MasterIntegers.{lies_in_root}
-use Rattle.bz_event.specs.declared.events.Entry.{Entry}
 use Rattle.bz_event.specs.declared.events.Event.{Event}
 use Rattle.bz_event.specs.declared.events.Event.TheVariants as event
 use Rattle.bz_event.specs.declared.events.How.{How}
@@ -35,13 +34,13 @@ use Rattle.bz_core.specs.declared.state.Node.{Node}
 use Rattle.bz_core.specs.declared.state.Post.{Post}
 use Rattle.bz_core.specs.declared.state.Region.{Region}
 use Rattle.bz_core.specs.Covers.{IsCovered, IsUnbeaten, KeepsBetterPoints, NothingBetterIsLost}
-use Rattle.bz_core.specs.Histories.{IsReplay, IsRootRegion}
+use Rattle.bz_core.specs.Histories.{IsRootRegion}
 use Rattle.bz_core.specs.Pools.{cuts_in}
 use Rattle.bz_core.specs.Posts.{ArePosts}
 use Rattle.bz_core.specs.States.{State, above, below, box_of, changed, changed_at, closed_by, effect, ended_by, filled_by, freed_by, freed_where_live, is_done, is_live, is_open, live_of, mode_for, mode_of, opening, posted_by, posted_point, side, sides_opened}
 use Rattle.bz_core.specs.Steps.{IsAt, IsBelow, IsBest, IsBetter, IsClosing, IsIncumbentStep, IsLeafStep, IsSplitStep, MayFollow, ReachesBest}
 use Rattle.bz_core.proofs.Growing.{histories_grow}
-use Rattle.bz_core.proofs.Lists.{at_after, at_kept, at_one, changed_item, length-changed}
+use Rattle.bz_core.proofs.Lists.{at_after, at_kept, at_one, changed_item}
 use Rattle.bz_core.proofs.PoolSteps.{IsEarly, IsPooled, early_of_next, pooled}
 use Rattle.bz_core.proofs.PostSteps.{posts_are_right}
 use Rattle.bz_core.proofs.SplitColumns.{splits_at}

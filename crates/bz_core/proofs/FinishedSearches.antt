@@ -1,7 +1,7 @@
 -- Searches that have come to their end without a stop.
-use Rattle.std.proofs.Common.{◌≡◌, refl, sym, ◌∙◌, ap, subst, ℕ, zero, suc, ◌+◌, ◌<◌, List, [], ◌∷◌, length, inl, inr, arith, ℤ, pos, ◌*ℤ◌, ◌≤ℤ◌, ◌<ℤ◌}
+use Rattle.std.proofs.Common.{◌≡◌, refl, sym, ◌∙◌, ap, subst, ℕ, zero, suc, ◌+◌, List, [], ◌∷◌, length, arith, ℤ, pos, ◌*ℤ◌, ◌≤ℤ◌, ◌<ℤ◌}
 use Rattle.std.proofs.lemmas.Int.{by_lt_z, ints}
-use Rattle.std.specs.Prelude.{◌⊎◌, ◌||◌, Option, Some, None, Bool, true, false, is_some}
+use Rattle.std.specs.Prelude.{◌||◌, Option, Some, None, Bool, true, false, is_some}
 use Rattle.std.specs.List.{AllByRecursion, enumerate_from, list_any, slice_get}
 use Rattle.bz_algebra.specs.Fractions.{IsSameNumber}
 use Rattle.bz_algebra.specs.Sums.{dot}
@@ -10,7 +10,7 @@ use Rattle.bz_model.specs.declared.BlockPart.{BlockPart}
 use Rattle.bz_model.specs.declared.Column.{Column}
 use Rattle.bz_model.specs.declared.Master.{Master}
 use Rattle.bz_model.specs.Decomposed.{IsDecomposed}
-use Rattle.bz_model.specs.Parting.{blocks_of, inequalities_of, inner_cost, integers_of, terms_in}
+use Rattle.bz_model.specs.Parting.{inequalities_of, inner_cost, integers_of, terms_in}
 use Rattle.bz_model.specs.PartPoints.{HasBlockShape, HasPointShape, HoldsInBlock, IsPointOf, eta_of}
 use Rattle.bz_model.specs.Points.{IsFeasible, IsInfeasible, IsOptimal, coordinate, objective}
 use Rattle.bz_model.specs.Splits.{Decomposition}
@@ -28,11 +28,11 @@ use Rattle.bz_core.specs.declared.state.Node.{Node}
 use Rattle.bz_core.specs.declared.state.Post.{Post}
 use Rattle.bz_core.specs.declared.state.Region.{Region}
 use Rattle.bz_core.specs.Covers.{IsCovered, IsUnbeaten}
-use Rattle.bz_core.specs.Finished.{BestIsFilled, FinishedIsTrue, FinishedSearchesAreTrue, completions, parts_of}
+use Rattle.bz_core.specs.Finished.{FinishedSearchesAreTrue, completions, parts_of}
 use Rattle.bz_core.specs.Histories.{IsReplay}
 use Rattle.bz_core.specs.Posts.{IsPostOf}
 use Rattle.bz_core.specs.States.{State, box_of, is_open, mode_of}
-use Rattle.bz_core.specs.Steps.{IsAt, IsBest, IsCompletion, IsFilled}
+use Rattle.bz_core.specs.Steps.{IsAt, IsBest, IsFilled}
 use Rattle.bz_core.specs.Trees.{IsInside, IsTree}
 use Rattle.bz_core.proofs.BestSteps.{best_is_filled}
 use Rattle.bz_core.proofs.CoverSteps.{nothing_better_is_lost}

@@ -1,8 +1,8 @@
 -- Lists with a changed item, and with one more.
-use Rattle.std.proofs.Common.{◌≡◌, refl, sym, ◌∙◌, ap, subst, ℕ, zero, suc, ◌+◌, List, [], ◌∷◌, ◌++◌, length, inl, inr, arith}
-use Rattle.std.specs.Prelude.{◌⊎◌, Some, ◌<◌}
+use Rattle.std.proofs.Common.{◌≡◌, refl, sym, ap, subst, ℕ, zero, suc, ◌+◌, List, [], ◌∷◌, ◌++◌, length, inl, inr, arith}
+use Rattle.std.specs.Prelude.{◌⊎◌, Some}
 use Rattle.std.specs.List.{AllByRecursion, slice_get}
-use Rattle.bz_core.specs.States.{changed, changed_at}
+use Rattle.bz_core.specs.States.{changed}
 
 pub length-changed : {X : Type 0} (f : X → X) (xs : List X) (i : ℕ) → length (changed f xs i) ≡ length xs
 length-changed f [] i = refl

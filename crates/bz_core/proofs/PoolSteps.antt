@@ -1,9 +1,9 @@
 -- The pool is kept right by each event.
-use Rattle.std.proofs.Common.{◌≡◌, refl, sym, ◌∙◌, ap, subst, ℕ, zero, suc, ◌+◌, ◌<◌, ◌≤◌, List, [], ◌∷◌, ◌++◌, length, inl, inr, arith, append-nil}
+use Rattle.std.proofs.Common.{◌≡◌, refl, sym, ◌∙◌, ap, subst, ℕ, suc, ◌<◌, ◌≤◌, List, [], ◌∷◌, ◌++◌, length, inl, inr, arith, append-nil}
 use Rattle.std.proofs.lemmas.Bool.{cases_lt}
 use Rattle.std.specs.Prelude.{◌⊎◌, Option, Some, None, pos, ◌<ℤ◌, ℤ, IsSome, max}
 use Rattle.std.proofs.Math.Nat.{le-max_right, le_trans}
-use Rattle.std.specs.List.{AllByRecursion, flat_map, slice_get}
+use Rattle.std.specs.List.{AllByRecursion, slice_get}
 use Rattle.std.proofs.lemmas.List.{length-append}
 use Rattle.std.proofs.lemmas.Grind.{flat_map-append}
 use Rattle.std.proofs.lemmas.Option.{slice_get_within}
@@ -22,8 +22,8 @@ use Rattle.bz_core.specs.declared.state.FallingRay.{FallingRay}
 use Rattle.bz_core.specs.declared.state.Node.{Node}
 use Rattle.bz_core.specs.declared.state.Region.{Region}
 use Rattle.bz_core.specs.Histories.{IsReplay}
-use Rattle.bz_core.specs.Pools.{IsPoolOf, PoolsAreRight, cuts_in, cuts_of}
-use Rattle.bz_core.specs.States.{State, effect, least_front, live_of, ended_by, filled_by, mode_for, opening, changed, changed_at}
+use Rattle.bz_core.specs.Pools.{PoolsAreRight, cuts_in, cuts_of}
+use Rattle.bz_core.specs.States.{State, effect, least_front, live_of, ended_by, filled_by, mode_for, opening, changed_at}
 use Rattle.bz_core.specs.Steps.{AreFloorsReady, IsAppendStep, IsFloorStep, IsFrontOf, IsNextFloor, MayFollow}
 use Rattle.bz_core.proofs.Growing.{histories_grow}
 use Rattle.bz_core.proofs.Lists.{all_at, at_end, at_kept, at_more, length-changed}

@@ -11,18 +11,15 @@ use Rattle.bz_model.specs.Splits.{Decomposition}
 use Rattle.bz_cut.specs.declared.Cut.{Cut}
 use Rattle.bz_cut.specs.declared.Mode.{Mode}
 use Rattle.bz_tree.specs.declared.Leaf.{Leaf}
-use Rattle.bz_event.specs.declared.events.Entry.{Entry}
 use Rattle.bz_event.specs.declared.events.Event.{Event}
 use Rattle.bz_event.specs.declared.events.Event.TheVariants as event
-use Rattle.bz_event.specs.declared.events.How.{How}
 use Rattle.bz_core.specs.declared.state.Filled.{Filled}
 use Rattle.bz_core.specs.declared.state.Node.{Node}
 use Rattle.bz_core.specs.declared.state.Post.{Post}
 use Rattle.bz_core.specs.declared.state.Region.{Region}
-use Rattle.bz_core.specs.Histories.{IsReplay}
 use Rattle.bz_core.specs.Pools.{cuts_in}
 use Rattle.bz_core.specs.Posts.{ArePosts, IsPostOf, PostsAreRight}
-use Rattle.bz_core.specs.States.{State, box_of, changed, changed_at, closed_by, effect, ended_by, filled_by, freed_by, freed_where_live, is_live, live_of, mode_of, opening, posted_by, posted_point, sides_opened}
+use Rattle.bz_core.specs.States.{State, box_of, changed, changed_at, closed_by, effect, ended_by, filled_by, freed_by, freed_where_live, is_live, live_of, mode_of, posted_by, posted_point, sides_opened}
 use Rattle.bz_core.specs.Steps.{IsAt, IsCompletion, IsFillStep, IsPostStep, IsPostedPoint, MayFollow}
 use Rattle.bz_core.proofs.Growing.{histories_grow}
 use Rattle.bz_core.proofs.Lists.{at_changed, at_kept, at_more, at_one, changed_item}

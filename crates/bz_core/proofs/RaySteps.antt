@@ -1,13 +1,8 @@
 -- The direction of a legal history, and what it shows.
-use Rattle.std.proofs.Common.{◌≡◌, refl, sym, ◌∙◌, ap, subst, ℕ, suc, ◌+◌, ◌<◌, ◌≤◌, List, ◌++◌, arith}
+use Rattle.std.proofs.Common.{◌≡◌, refl, subst, ℕ, suc, ◌<◌, ◌≤◌, List, arith}
 use Rattle.std.specs.Prelude.{Option, Some, None}
-use Rattle.std.specs.List.{AllByRecursion}
-use Rattle.bz_model.specs.Decomposed.{IsDecomposed}
-use Rattle.bz_model.specs.Parting.{blocks_of, inequalities_of}
-use Rattle.bz_model.specs.PartPoints.{HoldsInBlock}
-use Rattle.bz_model.specs.Points.{IsUnbounded}
+use Rattle.bz_model.specs.Parting.{blocks_of}
 use Rattle.bz_model.specs.Splits.{Decomposition}
-use Rattle.bz_cut.specs.declared.Mode.{Mode}
 use Rattle.bz_cut.specs.declared.Mode.TheVariants as mode
 use Rattle.bz_pass.proofs.PointsOfParts.{AreFeasible}
 use Rattle.bz_pass.proofs.Rays.{ray_unbounded}
@@ -21,8 +16,8 @@ use Rattle.bz_core.specs.declared.state.Post.{Post}
 use Rattle.bz_core.specs.declared.state.Region.{Region}
 use Rattle.bz_core.specs.Finished.{RaysAreTrue, parts_of}
 use Rattle.bz_core.specs.Histories.{IsReplay}
-use Rattle.bz_core.specs.States.{State, box_of, effect, mode_for, mode_of, opening}
-use Rattle.bz_core.specs.Steps.{IsAt, IsBest, IsFilled, MayFollow}
+use Rattle.bz_core.specs.States.{State, effect, mode_for, mode_of}
+use Rattle.bz_core.specs.Steps.{IsAt, IsFilled, MayFollow}
 use Rattle.bz_core.proofs.BestSteps.{best_is_filled}
 use Rattle.bz_core.proofs.FinishedSearches.{post_feasible}
 use Rattle.bz_core.proofs.Growing.{histories_grow}

@@ -2,12 +2,9 @@
 use Rattle.std.proofs.Common.{◌≡◌, refl, sym, ◌∙◌, ap, subst, ℕ, zero, suc, List, [], ◌∷◌, ◌++◌, take, inl, inr}
 use Rattle.std.specs.Prelude.{◌⊎◌, Some}
 use Rattle.std.specs.List.{slice_get}
-use Rattle.bz_model.specs.Splits.{Decomposition}
 use Rattle.bz_event.specs.declared.events.Entry.{Entry}
-use Rattle.bz_core.specs.declared.state.Region.{Region}
-use Rattle.bz_core.specs.Histories.{CountsRise, IsReplay, count_of}
+use Rattle.bz_core.specs.Histories.{CountsRise, count_of}
 use Rattle.bz_core.specs.States.{State}
-use Rattle.bz_core.specs.Steps.{IsStep}
 use Rattle.bz_core.proofs.Growing.{histories_grow}
 
 -- the item at a place of a list with one more is one of the old ones, or the new one

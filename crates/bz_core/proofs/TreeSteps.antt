@@ -1,9 +1,9 @@
 -- The tree is kept whole by each event.
-use Rattle.std.proofs.Common.{◌≡◌, refl, sym, ◌∙◌, ap, subst, ℕ, zero, suc, ◌+◌, ◌<◌, ◌≤◌, List, [], ◌∷◌, ◌++◌, length, inl, inr, arith, ℤ, pos, ◌+ℤ◌, ◌≤ℤ◌, ◌<ℤ◌}
+use Rattle.std.proofs.Common.{◌≡◌, refl, sym, ◌∙◌, ap, subst, ℕ, zero, suc, ◌+◌, ◌≤◌, List, [], ◌∷◌, ◌++◌, length, inl, inr, arith, ℤ, pos, ◌+ℤ◌, ◌≤ℤ◌, ◌<ℤ◌}
 use Rattle.std.proofs.lemmas.Int.{ints}
 use Rattle.std.specs.Prelude.{◌⊎◌, Option, Some, None, Bool, true, false, cond, is_none, take, set}
 use Rattle.std.specs.List.{slice_get}
-use Rattle.std.proofs.lemmas.List.{length-append, length-set}
+use Rattle.std.proofs.lemmas.List.{length-set}
 use Rattle.std.proofs.lemmas.Option.{slice_get_within}
 use Rattle.bz_model.specs.Points.{coordinate}
 use Rattle.bz_model.specs.Splits.{Decomposition}
@@ -12,7 +12,6 @@ use Rattle.bz_tree.specs.declared.Leaf.{Leaf}
 use Rattle.bz_tree.specs.Integers.{integer_at}
 use Rattle.bz_tree.specs.Leaves.{LeafHolds}
 use Rattle.bz_tree.specs.TreeFits.{FitsLeaf}
-use Rattle.bz_event.specs.declared.events.Entry.{Entry}
 use Rattle.bz_event.specs.declared.events.Event.{Event}
 use Rattle.bz_event.specs.declared.events.Event.TheVariants as event
 use Rattle.bz_event.specs.declared.events.How.{How}
@@ -21,10 +20,9 @@ use Rattle.bz_core.specs.declared.state.Closing.{Closing}
 use Rattle.bz_core.specs.declared.state.Node.{Node}
 use Rattle.bz_core.specs.declared.state.Post.{Post}
 use Rattle.bz_core.specs.declared.state.Region.{Region}
-use Rattle.bz_core.specs.Histories.{IsReplay}
-use Rattle.bz_core.specs.States.{State, above, below, box_of, changed, changed_at, closed_by, effect, ended_by, freed_by, freed_where_live, is_live, is_open, live_of, opening, posted_by, side, sides_opened}
+use Rattle.bz_core.specs.States.{State, above, below, box_of, changed, closed_by, effect, freed_by, freed_where_live, is_live, posted_by, side, sides_opened}
 use Rattle.bz_core.specs.Steps.{IsAt, IsClosing, IsLeafStep, IsSplitStep, MayFollow}
-use Rattle.bz_core.specs.Trees.{HasRegion, IsEnd, IsEndedRight, IsInside, IsLeafAt, IsParent, IsSplitAt, IsTree, TreesAreWhole}
+use Rattle.bz_core.specs.Trees.{HasRegion, IsEnd, IsEndedRight, IsInside, IsLeafAt, IsParent, IsTree, TreesAreWhole}
 use Rattle.bz_core.proofs.Growing.{histories_grow}
 use Rattle.bz_core.proofs.Lists.{at_after, changed_here, at_changed, at_either, at_kept, at_one, changed_item, length-changed}
 use Rattle.bz_core.proofs.PostSteps.{AreKept, IsLonger, kept_changed, kept_freed, kept_same, kept_with, longer_same, longer_with}

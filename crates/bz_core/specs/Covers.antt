@@ -1,5 +1,5 @@
 -- Nothing better is lost: what a search may still find.
-use Rattle.std.specs.Prelude.{ℕ, ◌≡◌, ℤ, pos, ◌*ℤ◌, ◌≤ℤ◌, ◌<ℤ◌, true, List}
+use Rattle.std.specs.Prelude.{ℕ, ◌≡◌, ℤ, true, List}
 use Rattle.bz_algebra.specs.Sums.{dot}
 use Rattle.bz_model.specs.Decomposed.{IsDecomposed}
 use Rattle.bz_model.specs.Parting.{inner_cost}

@@ -1,6 +1,6 @@
 -- What a search that has come to its end without a stop has found.
-use Rattle.std.specs.Prelude.{ℕ, ◌≡◌, ℤ, false, List, [], ◌∷◌, Option, Some, None, is_some, true}
-use Rattle.std.specs.List.{AllByRecursion, list_any}
+use Rattle.std.specs.Prelude.{ℕ, ◌≡◌, ℤ, false, List, [], ◌∷◌, Option, Some, None}
+use Rattle.std.specs.List.{list_any}
 use Rattle.bz_algebra.specs.Fractions.{IsSameNumber}
 use Rattle.bz_model.specs.declared.BlockPart.{BlockPart}
 use Rattle.bz_model.specs.declared.Parts.{Parts}

@@ -1,6 +1,5 @@
 -- The posted points of every legal history.
 use Rattle.std.specs.Prelude.{ℕ, suc, ◌≡◌, ◌≤◌, List, length, take, Some}
-use Rattle.std.specs.List.{slice_get}
 use Rattle.bz_model.specs.Parting.{blocks_of}
 use Rattle.bz_model.specs.Splits.{Decomposition}
 use Rattle.bz_cut.specs.declared.Cut.{Cut}

@@ -18,9 +18,7 @@ use Rattle.bz_event.specs.declared.events.How.{How}
 use Rattle.bz_event.specs.declared.events.How.TheVariants as how
 use Rattle.bz_event.specs.declared.events.Why.{Why}
 use Rattle.bz_event.specs.declared.events.Why.TheVariants as why
-use Rattle.bz_core.specs.declared.state.Closing.{Closing}
 use Rattle.bz_core.specs.declared.state.FallingRay.{FallingRay}
-use Rattle.bz_core.specs.declared.state.Filled.{Filled}
 use Rattle.bz_core.specs.declared.state.Node.{Node}
 use Rattle.bz_core.specs.declared.state.Post.{Post}
 use Rattle.bz_core.specs.declared.state.Region.{Region}

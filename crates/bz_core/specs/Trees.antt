@@ -1,6 +1,5 @@
 -- The tree of every legal history.
 use Rattle.std.specs.Prelude.{ℕ, suc, ◌≡◌, ◌<◌, ◌≤◌, ◌⊎◌, ℤ, pos, ◌+ℤ◌, ◌≤ℤ◌, List, length, take, Option, Some, None}
-use Rattle.std.specs.List.{slice_get}
 use Rattle.bz_model.specs.Splits.{Decomposition}
 use Rattle.bz_model.specs.Points.{coordinate}
 use Rattle.bz_cut.specs.declared.Cut.{Cut}
