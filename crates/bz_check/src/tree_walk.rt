@@ -18,6 +18,7 @@ use crate::trial::Trial;
 use bz_cut::Cut;
 use bz_judge::{CheckFault, judge_leaf};
 use bz_model::Split;
+use bz_model::Terms;
 use bz_tree::{Leaf, NodeBox, Sides, TreeNode, integer_column};
 use std::alloc::Global;
 
@@ -75,6 +76,7 @@ fn judge_leaf_here(trial: &Trial<'_>, node: u32, leaf: &Leaf, walk: &Walk) -> Re
 {
     let sides = Sides {
         rows: trial.split.inequalities(0),
+        entries: trial.split.entries(0, Terms::Own),
         positions: trial.positions,
         lower: walk.lower.as_slice(),
         upper: walk.upper.as_slice(),

@@ -138,13 +138,12 @@ pub fn entry_lists(
     Ok(lists)
 }
 
-/// The list of a position.
-pub fn entries_in(entries: &ByPosition, which: Terms, position: u32) -> &SparseRow
-    requires { position < length (rows_of which entries.now) }
-    ensures { result.now ≡ slice_index_or (rows_of which entries.now) position [] }
+/// The lists of the terms that are asked for.
+pub fn chosen_rows(entries: &ByPosition, which: Terms) -> &[SparseRow]
+    ensures { result.now ≡ rows_of which entries.now }
 {
     match which {
-        Terms::Own => &entries.own[position as usize],
-        Terms::Master => &entries.master[position as usize],
+        Terms::Own => entries.own.as_slice(),
+        Terms::Master => entries.master.as_slice(),
     }
 }

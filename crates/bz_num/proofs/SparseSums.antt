@@ -1,5 +1,5 @@
 -- A sum over the pairs of a row at the columns of another one alone is the sum over all pairs: the others give 0.
-use Rattle.std.proofs.Common.{◌≡◌, refl, sym, ◌∙◌, ap, subst, ℕ, zero, suc, ◌+◌, ◌<◌, ◌≤◌, ◌-◌, true, false, inl, inr, List, [], ◌∷◌, length, drop, get_or, arith, ℤ, pos, ◌+ℤ◌, ◌*ℤ◌, Result, Ok, Err}
+use Rattle.std.proofs.Common.{◌≡◌, refl, sym, ◌∙◌, ap, ℕ, zero, suc, ◌+◌, ◌<◌, ◌≤◌, ◌-◌, true, false, inl, inr, List, [], ◌∷◌, length, drop, get_or, arith, ℤ, pos, ◌+ℤ◌, ◌*ℤ◌, Result, Ok, Err}
 use Rattle.std.specs.List.Sorted.{IsBinarySearchResult, IsSearchInRange}
 use Rattle.std.specs.Ordering.{nat_cmp}
 use Rattle.std.specs.Prelude.{MatchOption}
@@ -141,6 +141,11 @@ left_is es f t count sum e d = rw (e, d) refl
 pub steps_wide : (es : List (ℕ × ℤ)) (f g : ℕ → ℤ) (old new : Taken) (r : Result (Unit {0}) WideSum) (e : WideSum) → IsErrAnd r (λ w. w ≡ e) → Err e ≡ sum_left es f old → Steps es f g old new r
 steps_wide es f g old new (Ok u) e told h = absurd told
 steps_wide es f g old new (Err w) e told h = ap Err told ∙ h
+
+-- one step, and then another
+pub steps_then : (es : List (ℕ × ℤ)) (f g h : ℕ → ℤ) (old mid new : Taken) (r : Result (Unit {0}) WideSum) → sum_left es g mid ≡ sum_left es f old → Steps es g h mid new r → Steps es f h old new r
+steps_then es f g h old mid new (Ok u) e s = s ∙ e
+steps_then es f g h old mid new (Err w) e s = s ∙ e
 
 pub wide_told : (p : Result ℤ WideSum) (r : Result ℤ WideSum) (e : WideSum) → IsErrAnd r (λ w. w ≡ e) → Err e ≡ p → r ≡ p
 wide_told p (Ok u) e told h = absurd told

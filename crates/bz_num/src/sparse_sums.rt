@@ -10,28 +10,31 @@ use crate::row::SparseRow;
 use crate::sums::Numbers;
 
 /// The place of the pair at the column, where there is one.
-fn place_of(entries: &[(u32, i128)], column: u32) -> Option<usize>
+fn place_of(entries: &[(u32, i128)], column: usize) -> Option<usize>
     requires { IsSparse entries.now }
     ensures { MatchOption result (IsMissing column entries.now) (IsPlace column entries.now) }
 {
-    entries.binary_search_by_key(&column, |entry| entry.0).ok()
+    entries
+        .binary_search_by_key(&column, |entry| entry.0 as usize)
+        .ok()
 }
 
-/// Takes the row's pairs up to the one at the entry's column, where the row has one there that is not taken. Those
-/// before it give 0.
+/// Takes the row's pairs up to the one at the column, where the row has one there that is not taken, times the number.
+/// Those before it give 0.
 pub fn fold_entry(
     row: &SparseRow,
-    entry: &(u32, i128),
+    column: usize,
+    number: i128,
     folding: &mut Folding,
 ) -> Result<(), WideSum>
     requires { folding.old.count ≤ length row.now }
     ensures inside { OnOk result (folding.new.count ≤ length row.now) }
-    ensures steps { (f g : ℕ → ℤ) → IsAhead entry.now f g → Steps row.now f g folding.old folding.new result }
+    ensures steps { (f g : ℕ → ℤ) → IsAhead (column, number) f g → Steps row.now f g folding.old folding.new result }
 {
     let entries = row.as_slice();
-    if let Some(found) = place_of(&entries[folding.count()..], entry.0) {
+    if let Some(found) = place_of(&entries[folding.count()..], column) {
         folding.pass(found);
-        folding.push(entries[folding.count()].1, entry.1)?;
+        folding.push(entries[folding.count()].1, number)?;
     }
     Ok(())
 }
@@ -45,26 +48,27 @@ pub fn fold_entries(
     requires { folding.old.count ≤ length row.now }
     ensures inside { OnOk result (folding.new.count ≤ length row.now) }
     ensures steps { (f g : ℕ → ℤ) → AreAhead other.now f g → Steps row.now f g folding.old folding.new result }
+    ensures sparse { IsSparse other.now }
 {
     for entry in other.as_slice() {
-        fold_entry(row, entry, folding)?;
+        fold_entry(row, entry.0 as usize, entry.1, folding)?;
     }
     Ok(())
 }
 
 /// How many of the row's pairs are before the column.
-fn count_before(entries: &[(u32, i128)], column: u32) -> usize
+fn count_before(entries: &[(u32, i128)], column: usize) -> usize
     requires { IsSparse entries.now }
     ensures { IsCountBefore column entries.now result }
 {
-    match entries.binary_search_by_key(&column, |entry| entry.0) {
+    match entries.binary_search_by_key(&column, |entry| entry.0 as usize) {
         Ok(place) => place,
         Err(place) => place,
     }
 }
 
 /// Takes the row's pairs before the column, which give 0.
-fn pass_before(row: &SparseRow, column: u32, folding: &mut Folding)
+fn pass_before(row: &SparseRow, column: usize, folding: &mut Folding)
     requires { folding.old.count ≤ length row.now }
     ensures inside { folding.new.count ≤ length row.now }
     ensures left { (f : ℕ → ℤ) → ((j : ℕ) → j < column → f j ≡ pos 0)
@@ -99,7 +103,7 @@ fn fold_rest<N: Numbers>(
 /// place. The row's other pairs give 0.
 pub fn fold_from_column<N: Numbers>(
     row: &SparseRow,
-    column: u32,
+    column: usize,
     numbers: &N,
     folding: Folding,
 ) -> Result<i128, WideSum>

@@ -1,7 +1,8 @@
-use Rattle.std.proofs.Common.{rules, ◌≡◌, ◌+◌, ◌<◌, ◌≤◌, ◌∷◌, ◌∙◌, [], ap, sym, ℕ, ℤ, pos, Err, drop, drop_of_length-le, get_or, length, List}
+use Rattle.std.proofs.Common.{rules, ◌≡◌, ◌+◌, ◌<◌, ◌≤◌, ◌∷◌, ◌∙◌, [], ap, sym, ℕ, ℤ, pos, Err, drop, drop_of_length-le, get_or, length, List, FitsSigned, to_z-of_z}
+use Rattle.std.specs.Int.{w128}
 use Rattle.std.proofs.lemmas.List.{drop_more}
 use Rattle.bz_num.specs.Row.{IsSparse}
-use Rattle.bz_num.specs.SparseSums.{AreAhead, IsAhead, Steps, sum_left}
+use Rattle.bz_num.specs.SparseSums.{IsAhead, sum_left}
 use Rattle.bz_num.proofs.SparseSums.{ahead_end, ahead_start, at_place, entry_ahead, rest_of, sparse_rest, steps_wide}
 use Rattle.bz_num.proofs.sparse_sums.fold_entries.Goals as goal
 
@@ -20,7 +21,8 @@ returns-in_err-fold_entry-clause-steps c =
     let inside : i < length c.args.other.now = rw c.as_slice-entry-items.ensures.value at c.loop-entry-test.true in
     let more : drop i c.args.other.now ≡ entry ∷ rest = drop_more c.args.other.now i (0, pos 0) inside in
     let sparse : IsSparse (entry ∷ rest) = rw more at c.loop-entry.invariant.sparse in
-    let told : (f g : ℕ → ℤ) → IsAhead entry f g → Err c.in_err-fold_entry.field-0.0 ≡ sum_left c.args.row.now f c.loop-entry.folding = rw c.as_slice-entry-items.ensures.value at c.in_err-fold_entry.ensures.steps in
+    let fits : FitsSigned w128 (get_or c.as_slice-entry-items.result.now i (0, pos 0)).1 = search rules in
+    let told : (f g : ℕ → ℤ) → IsAhead entry f g → Err c.in_err-fold_entry.field-0.0 ≡ sum_left c.args.row.now f c.loop-entry.folding = rw (to_z-of_z fits, c.as_slice-entry-items.ensures.value) at c.in_err-fold_entry.ensures.steps in
     λ f g a.
     steps_wide c.args.row.now f g _ _ c.from_residual.result c.in_err-fold_entry.field-0.0 c.from_residual.ensures.1
     (told (rest_of (entry ∷ rest) g) (rest_of rest g) (entry_ahead 0 entry rest g sparse (at_place (λ e. (j : ℕ) → j ≤ e.0 → g j ≡ pos 0) c.args.other.now i (0, pos 0) a.nothing inside))
@@ -35,7 +37,8 @@ loop-entry-preserved c =
     let inside : i < length c.args.other.now = rw c.as_slice-entry-items.ensures.value at c.loop-entry-test.true in
     let more : drop i c.args.other.now ≡ entry ∷ rest = drop_more c.args.other.now i (0, pos 0) inside in
     let sparse : IsSparse (entry ∷ rest) = rw more at c.loop-entry.invariant.sparse in
-    let told : (f g : ℕ → ℤ) → IsAhead entry f g → sum_left c.args.row.now g c.fold_entry.new.folding ≡ sum_left c.args.row.now f c.loop-entry.folding = rw c.as_slice-entry-items.ensures.value at c.in_ok-fold_entry.ensures.steps in
+    let fits : FitsSigned w128 (get_or c.as_slice-entry-items.result.now i (0, pos 0)).1 = search rules in
+    let told : (f g : ℕ → ℤ) → IsAhead entry f g → sum_left c.args.row.now g c.fold_entry.new.folding ≡ sum_left c.args.row.now f c.loop-entry.folding = rw (to_z-of_z fits, c.as_slice-entry-items.ensures.value) at c.in_ok-fold_entry.ensures.steps in
     record {
       inside = c.in_ok-fold_entry.ensures.inside;
       sparse = sparse_rest entry rest sparse;

@@ -1,5 +1,4 @@
-use Rattle.std.proofs.Common.{rules, ◌≡◌, ◌+◌, ◌-◌, ◌<◌}
-use Rattle.bz_num.specs.Fold.{Taken}
+use Rattle.std.proofs.Common.{◌≡◌, ◌+◌, ◌-◌, ◌<◌}
 use Rattle.bz_num.specs.SparseSums.{IsCountBefore}
 use Rattle.bz_num.proofs.SparseSums.{passed_before}
 use Rattle.bz_num.proofs.sparse_sums.pass_before.Goals as goal
