@@ -17,8 +17,7 @@ use crate::tree_goals::{Goal, judge_goal};
 use crate::trial::Trial;
 use bz_cut::Cut;
 use bz_judge::{CheckFault, judge_leaf};
-use bz_model::Split;
-use bz_model::Terms;
+use bz_model::{Split, Terms};
 use bz_tree::{Leaf, NodeBox, Sides, TreeNode, integer_column};
 use std::alloc::Global;
 

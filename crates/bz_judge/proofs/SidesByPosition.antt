@@ -1,22 +1,21 @@
 -- What the sides of a leaf have at a position of the master: the inequalities by the position's list, then the box, then
 -- the cuts.
-use Rattle.std.proofs.Common.{◌≡◌, refl, sym, ◌∙◌, ap, subst, ℕ, zero, suc, ◌+◌, ◌*◌, ◌<◌, ◌≤◌, true, false, List, [], ◌∷◌, length, get_or, arith, ℤ, pos, negsuc, ◌+ℤ◌, inl, inr, nat_lt}
-use Rattle.std.specs.Prelude.{if◌then◌else◌, slice_index_or}
+use Rattle.std.proofs.Common.{◌≡◌, refl, sym, ◌∙◌, ap, subst, ℕ, zero, suc, ◌+◌, ◌*◌, ◌<◌, ◌≤◌, List, [], ◌∷◌, length, get_or, arith, ℤ, pos, negsuc, inl, inr}
 use Rattle.std.specs.List.{AllByRecursion}
 use Rattle.std.specs.Int.RustNames.{unsigned_abs}
 use Rattle.std.proofs.lemmas.Int.{ints}
 use Rattle.std.proofs.lemmas.Bool.{cases_eq, cases_lt, eq-eqb, le-ltb, lt-ltb, ne_eqb}
 use Rattle.bz_algebra.specs.Sums.{coef}
 use Rattle.bz_num.specs.Fold.{Taken}
-use Rattle.bz_num.specs.Row.{IsEntryFrom, IsSparse, IsSparseFrom}
+use Rattle.bz_num.specs.Row.{IsSparse, IsSparseFrom}
 use Rattle.bz_num.specs.SparseSums.{AreAhead, IsAhead, IsFrom, sum_left}
 use Rattle.bz_num.proofs.Coefs.{coef-first, coef-rest}
 use Rattle.bz_num.proofs.SparseSums.{same_left}
 use Rattle.bz_model.specs.declared.Ineq.{Ineq}
 use Rattle.bz_model.specs.Entries.{IsEntriesAt}
-use Rattle.bz_model.specs.Rows.{own_at, master_at}
+use Rattle.bz_model.specs.Rows.{own_at}
 use Rattle.bz_cut.proofs.Steps.{own_at-is}
-use Rattle.bz_tree.specs.LeafSides.{AreSides, sides_in}
+use Rattle.bz_tree.specs.LeafSides.{sides_in}
 use Rattle.bz_tree.specs.declared.leaf_sides.Sides.{Sides}
 use Rattle.bz_tree.proofs.LeafSides.{lower_at, master_is, row_at, upper_at}
 use Rattle.bz_judge.specs.SideNumbers.{master_number, numbers_from}
@@ -33,12 +32,12 @@ pub more_nothing : (first : ℕ) (f : ℕ → ℤ) → f first ≡ pos 0 → f (
 more_nothing first f a b n = elim (cases_lt n first) [
   | inl l ↦ before_first (first + 2) f n (omega (arith, l)) ∙ sym (before_first first f n l)
   | inr l ↦ elim (cases_lt n (first + 2)) [
-      | inr m ↦ from_first (first + 2) f n m ∙ sym (from_first first f n l)
-      | inl m ↦ before_first (first + 2) f n m ∙ sym (from_first first f n l ∙ elim (cases_eq n first) [
-          | inl e ↦ ap f e ∙ a
-          | inr d ↦ ap f (let e : n ≡ first + 1 = omega (arith, l, m, d) in e) ∙ b
-        ])
-    ]
+    | inr m ↦ from_first (first + 2) f n m ∙ sym (from_first first f n l)
+    | inl m ↦ before_first (first + 2) f n m ∙ sym (from_first first f n l ∙ elim (cases_eq n first) [
+      | inl e ↦ ap f e ∙ a
+      | inr d ↦ ap f (let e : n ≡ first + 1 = omega (arith, l, m, d) in e) ∙ b
+    ])
+  ]
 ]
 
 -- one number is ahead of those behind it
@@ -97,8 +96,8 @@ rows_ahead s position es h k = record {
         rw (own, later) (omega (arith, ints))
   ];
   nothing = nothing_at (length s.rows.now) 0 es (numbers_from (length s.rows.now) (master_number s position)) h
-  (λ n a b. k n ∙ ap (λ (r : List (ℕ × ℤ)). coef r position) (own_beyond s.rows.now n b))
-  (λ j l. before_first (length s.rows.now) (master_number s position) j l);
+      (λ n a b. k n ∙ ap (λ (r : List (ℕ × ℤ)). coef r position) (own_beyond s.rows.now n b))
+      (λ j l. before_first (length s.rows.now) (master_number s position) j l);
 }
 
 -- where there is no list, the inequalities have nothing

@@ -7,7 +7,9 @@ ghost use Rattle.bz_tree.specs.LeafSides.{AreSides, sides_in};
 ghost use Rattle.bz_num.specs.SparseSums.{Steps};
 ghost use Rattle.bz_judge.specs.SideNumbers.{master_number, number_in, numbers_from};
 
-use bz_num::{Folding, Numbers, SparseRow, WideSum, fold_entries, fold_entry, fold_from_column, sum_at};
+use bz_num::{
+    Folding, Numbers, SparseRow, WideSum, fold_entries, fold_entry, fold_from_column, sum_at,
+};
 use bz_tree::Sides;
 
 /// One number of a side.
@@ -72,11 +74,7 @@ fn fold_rows(
 }
 
 /// Takes the multipliers of the upper and the lower side of the box at a place, which have 1 and -1.
-fn fold_ends(
-    multipliers: &SparseRow,
-    first: usize,
-    folding: &mut Folding,
-) -> Result<(), WideSum>
+fn fold_ends(multipliers: &SparseRow, first: usize, folding: &mut Folding) -> Result<(), WideSum>
     requires inside { folding.old.count ≤ length multipliers.now }
     requires room { first + 1 < 2 ^ 64 }
     ensures inside { OnOk result (folding.new.count ≤ length multipliers.now) }
@@ -99,7 +97,8 @@ fn fold_box(
     ensures inside { OnOk result (folding.new.count ≤ length multipliers.now) }
     ensures steps { Steps multipliers.now
         (numbers_from (length sides.now.rows.now) (master_number sides.now position))
-        (numbers_from (length sides.now.rows.now + 2 * length sides.now.positions.now) (master_number sides.now position))
+        (numbers_from (length sides.now.rows.now + 2 * length sides.now.positions.now)
+            (master_number sides.now position))
         folding.old folding.new result }
 {
     for (k, integer) in sides.positions.iter().enumerate() {
@@ -110,13 +109,9 @@ fn fold_box(
     Ok(())
 }
 
-/// The sum of the sides' numbers at a position of the master, each times its multiplier, or its first wide place. Of the
-/// inequalities and the box it goes over those alone that have a number there. It takes no memory.
-pub fn position_sum(
-    sides: &Sides,
-    multipliers: &SparseRow,
-    position: u32,
-) -> Result<i128, WideSum>
+/// The sum of the sides' numbers at a position of the master, each times its multiplier, or its first wide place. Of
+/// the inequalities and the box it goes over those alone that have a number there. It takes no memory.
+pub fn position_sum(sides: &Sides, multipliers: &SparseRow, position: u32) -> Result<i128, WideSum>
     requires sides { AreSides sides.now }
     requires multipliers { AreMultipliers (length (sides_in sides.now)) multipliers.now }
     ensures { result ≡ fold_of (pairs_at multipliers.now (master_number sides.now position)) }
@@ -126,7 +121,12 @@ pub fn position_sum(
     fold_box(sides, multipliers, position, &mut folding)?;
     let place = Place::Master(position);
     let first_cut = sides.rows.len() + 2 * sides.positions.len();
-    fold_from_column(multipliers, first_cut, &SideNumbers { sides, place }, folding)
+    fold_from_column(
+        multipliers,
+        first_cut,
+        &SideNumbers { sides, place },
+        folding,
+    )
 }
 
 /// The sum of the sides' numbers, each times its multiplier, or its first wide place. It takes no memory.

@@ -61,11 +61,11 @@ pub entries_kept : (m : Model) (part : List ℕ) (columns : List (List ℕ)) (in
 entries_kept m part columns inequalities lists k i a = record {
   count = a.count ∙ i.count;
   each = all_numbered_then
-  (λ e. HasEntries (width_in columns e.0) (width_in columns 0) (slice_index_or inequalities e.0 []) e.1)
-  (λ e. HasEntries (width_of part e.0) (width_of part 0) (inequalities_of m part e.0) e.1)
-  0 (suc (blocks_of part)) lists (omega (arith, a.count, i.count))
-  (λ b x l h. rw (← width_kept part columns b k (omega (arith, l)), ← width_kept part columns 0 k (omega arith), ← i.each b l) h)
-  a.each;
+      (λ e. HasEntries (width_in columns e.0) (width_in columns 0) (slice_index_or inequalities e.0 []) e.1)
+      (λ e. HasEntries (width_of part e.0) (width_of part 0) (inequalities_of m part e.0) e.1)
+      0 (suc (blocks_of part)) lists (omega (arith, a.count, i.count))
+      (λ b x l h. rw (← width_kept part columns b k (omega (arith, l)), ← width_kept part columns 0 k (omega arith), ← i.each b l) h)
+      a.each;
 }
 
 -- an item and its number

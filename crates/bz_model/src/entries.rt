@@ -59,11 +59,7 @@ fn push_entry(
 }
 
 /// Adds the numbers of the inequality at a place to the rows of their positions.
-fn push_terms(
-    rows: &mut Vec<SparseRow>,
-    place: u32,
-    terms: &SparseRow,
-) -> Result<(), OutOfMemory>
+fn push_terms(rows: &mut Vec<SparseRow>, place: u32, terms: &SparseRow) -> Result<(), OutOfMemory>
     requires inside { AllBelow (length rows.old.items) terms.now }
     requires above { (i : ℕ) → i < length rows.old.items → AllBelow place (slice_index_or rows.old.items i []) }
     ensures { IfOk result (λ _. AreJoined rows.old.items rows.new.items (λ i. entry_at place (coef terms.now i))) }

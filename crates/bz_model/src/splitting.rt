@@ -98,8 +98,8 @@ impl Split {
     {
         self.kept.inequalities[part as usize].as_slice()
     }
-    /// What the inequalities of a part have at each position of the part or of the master, by their places in the part's
-    /// list. It takes no memory.
+    /// What the inequalities of a part have at each position of the part or of the master, by their places in the
+    /// part's list. It takes no memory.
     pub fn entries(&self, part: u32, which: Terms) -> &[SparseRow]
         requires { part ≤ blocks_of self.now.part }
         ensures width { length result.now ≡ width_at which self.now.part part }

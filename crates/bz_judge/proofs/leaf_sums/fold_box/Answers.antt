@@ -1,4 +1,4 @@
-use Rattle.std.proofs.Common.{rules, ◌≡◌, ◌+◌, ◌*◌, ◌∙◌, ap, ℕ, ℤ, arith, get_or, length}
+use Rattle.std.proofs.Common.{◌≡◌, ◌+◌, ◌*◌, ◌∙◌, ap, ℕ, arith, get_or, length}
 use Rattle.bz_num.specs.SparseSums.{sum_left}
 use Rattle.bz_num.proofs.SparseSums.{steps_wide}
 use Rattle.bz_judge.specs.SideNumbers.{master_number, numbers_from}

@@ -8,5 +8,5 @@ abbrev pub invariant-loop-k : goal.invariant-loop-k
 invariant-loop-k l = record {
   inside : l.folding.count ≤ length l.multipliers;
   left : sum_left l.multipliers (numbers_from (length l.sides.rows.now + 2 * l.k) (master_number l.sides l.position)) l.folding
-  ≡ sum_left l.multipliers (numbers_from (length l.sides.rows.now) (master_number l.sides l.position)) l.initial.folding;
+      ≡ sum_left l.multipliers (numbers_from (length l.sides.rows.now) (master_number l.sides l.position)) l.initial.folding;
 }

@@ -1,4 +1,4 @@
-use Rattle.std.proofs.Common.{rules, ◌≡◌, ◌+◌, subst, ℕ, ℤ, pos, negsuc, arith}
+use Rattle.std.proofs.Common.{◌≡◌, ◌+◌, subst, ℕ, pos, negsuc, arith}
 use Rattle.bz_num.specs.SparseSums.{Steps}
 use Rattle.bz_num.proofs.SparseSums.{steps_then, steps_wide}
 use Rattle.bz_judge.specs.SideNumbers.{numbers_from}

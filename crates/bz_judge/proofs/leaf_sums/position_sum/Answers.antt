@@ -1,4 +1,4 @@
-use Rattle.std.proofs.Common.{rules, ◌≡◌, ◌+◌, ◌*◌, ◌∙◌, ℕ, ℤ, pos, length}
+use Rattle.std.proofs.Common.{◌+◌, ◌*◌, ◌∙◌, ℕ, ℤ, pos, length}
 use Rattle.bz_num.proofs.SparseSums.{left_is}
 use Rattle.bz_cut.proofs.Steps.{multipliers_below}
 use Rattle.bz_judge.specs.SideNumbers.{master_number, numbers_from}

@@ -11,7 +11,7 @@ fold_rest-requires-clause-places g c =
 pub returns : goal.returns
 returns g c =
     let rest : c.fold_rest.result ≡ sum_left c.args.row.now (g.N.Numbers.at c.args.numbers.now) c.pass_before.new.folding =
-        rw (take_rest c.as_slice.result.now c.count.result, c.as_slice.ensures.value, c.count.ensures.value) at c.fold_rest.ensures in
+    rw (take_rest c.as_slice.result.now c.count.result, c.as_slice.ensures.value, c.count.ensures.value) at c.fold_rest.ensures in
     λ f h.
     rest
     ∙ from_column c.args.column c.args.row.now f (g.N.Numbers.at c.args.numbers.now) c.pass_before.new.folding h c.pass_before.ensures.behind
