@@ -17,7 +17,7 @@ use crate::tree_goals::{Goal, judge_goal};
 use crate::trial::Trial;
 use bz_cut::Cut;
 use bz_judge::{CheckFault, judge_leaf};
-use bz_model::Split;
+use bz_model::{Split, Terms};
 use bz_tree::{Leaf, NodeBox, Sides, TreeNode, integer_column};
 use std::alloc::Global;
 
@@ -75,6 +75,7 @@ fn judge_leaf_here(trial: &Trial<'_>, node: u32, leaf: &Leaf, walk: &Walk) -> Re
 {
     let sides = Sides {
         rows: trial.split.inequalities(0),
+        entries: trial.split.entries(0, Terms::Own),
         positions: trial.positions,
         lower: walk.lower.as_slice(),
         upper: walk.upper.as_slice(),

@@ -14,6 +14,7 @@ mod records;
 mod sharing;
 mod sums;
 
+pub use bz_model::Terms;
 pub use cuts::{fits_and_valid, judge_cut};
 pub use faults::CutFault;
 pub use judging::{
@@ -25,7 +26,6 @@ pub use mode::Mode;
 pub use points::{cuts_off, same};
 pub use records::Cut;
 pub use sums::{column_sum, position_sum, rhs_sum};
-pub use bz_model::Terms;
 
 #[cfg(test)]
 mod tests;

@@ -7,4 +7,5 @@ pub mod LaterEntries
 pub mod LeavesTold
 pub mod PointsTold
 pub mod RayCosts
+pub mod SidesByPosition
 pub mod WholeQuotients

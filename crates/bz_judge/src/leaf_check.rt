@@ -7,7 +7,7 @@ ghost use Rattle.bz_judge.specs.LeafTests.{leaf_bound_tests, leaf_eta_tests, lea
 ghost use Rattle.bz_tree.specs.LeafSides.{AreSides, sides_in};
 
 use crate::faults::{CheckFault, LEAF_SUMS, wide_in};
-use crate::leaf_sums::{Place, side_sum};
+use crate::leaf_sums::{Place, position_sum, side_sum};
 use bz_cut::{are_multipliers, judge_opposite, judge_sum};
 use bz_first::{PlaceTests, judge, judge_below, judge_order};
 use bz_model::Split;
@@ -44,7 +44,7 @@ impl PlaceTests<CheckFault> for Positions<'_> {
 
     fn judge_at(&self, position: u32) -> Result<(), CheckFault> {
         let leaf = self.leaf;
-        let sum = side_sum(self.sides, &leaf.lambda, Place::Master(position));
+        let sum = position_sum(self.sides, &leaf.lambda, position);
         let cost = self.split.inner_cost(0, position);
         let broken = CheckFault::Leaf { node: self.node };
         let wide = wide_in(LEAF_SUMS, self.node);

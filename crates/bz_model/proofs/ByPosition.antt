@@ -87,7 +87,6 @@ below_more : (n m : ℕ) (es : List (ℕ × ℤ)) → n ≤ m → AllBelow n es 
 below_more n m [] l h = tt
 below_more n m (e ∷ es) l h = (omega (arith, h.0, l), below_more n m es l h.1)
 
-
 pub entries_start : (width : ℕ) (terms : ℕ → List (ℕ × ℤ)) (lists : List (List (ℕ × ℤ))) → lists ≡ replicate width [] → AreEntriesTo 0 width terms lists
 entries_start width terms lists e = record {
   count = ap length e ∙ length-replicate width [];

@@ -1,8 +1,11 @@
 -- The numbers by position that a split keeps.
-use Rattle.std.proofs.Common.{◌≡◌, sym, ◌∙◌, ap, subst, ℕ, zero, suc, ◌+◌, ◌<◌, ◌≤◌, ◌^◌, List, [], ◌∷◌, length, get_or, arith, ℤ}
+use Rattle.std.proofs.Common.{◌≡◌, sym, ◌∙◌, ap, subst, ℕ, zero, suc, ◌+◌, ◌<◌, ◌≤◌, ◌^◌, List, [], ◌∷◌, length, get_or, arith, ℤ, inl, inr}
 use Rattle.std.specs.Prelude.{slice_index_or}
 use Rattle.std.specs.List.{AllByRecursion, enumerate_from}
+use Rattle.std.proofs.Math.ListN.{get_or-eq_default}
+use Rattle.std.proofs.lemmas.Bool.{cases_lt}
 use Rattle.bz_algebra.specs.Sums.{AllBelow, coef}
+use Rattle.bz_algebra.proofs.SumLemmas.{coef_beyond}
 use Rattle.bz_model.specs.declared.entries.ByPosition.{ByPosition}
 use Rattle.bz_model.specs.declared.entries.Terms.{Terms}
 use Rattle.bz_model.specs.declared.entries.Terms.TheVariants.{Own, Master}
@@ -11,7 +14,7 @@ use Rattle.bz_model.specs.declared.records.Model.{Model}
 use Rattle.bz_model.specs.Entries.{AreEntries, AreEntryLists, ArePartEntries, HasEntries, IsEntriesAt, RowsFit, rows_of, width_at, width_in}
 use Rattle.bz_model.specs.Parting.{blocks_of, inequalities_of, width_of}
 use Rattle.bz_model.specs.PartLists.{AreColumnLists, AreInequalityLists}
-use Rattle.bz_model.specs.Rows.{terms_at}
+use Rattle.bz_model.specs.Rows.{master_at, own_at, terms_at}
 use Rattle.bz_model.specs.Splits.{FitsPart}
 use Rattle.bz_model.specs.Strict.{HasItsColumns}
 use Rattle.bz_model.proofs.Inequalities.{inequalities_fit, length-inequalities}
@@ -58,11 +61,11 @@ pub entries_kept : (m : Model) (part : List ℕ) (columns : List (List ℕ)) (in
 entries_kept m part columns inequalities lists k i a = record {
   count = a.count ∙ i.count;
   each = all_numbered_then
-  (λ e. HasEntries (width_in columns e.0) (width_in columns 0) (slice_index_or inequalities e.0 []) e.1)
-  (λ e. HasEntries (width_of part e.0) (width_of part 0) (inequalities_of m part e.0) e.1)
-  0 (suc (blocks_of part)) lists (omega (arith, a.count, i.count))
-  (λ b x l h. rw (← width_kept part columns b k (omega (arith, l)), ← width_kept part columns 0 k (omega arith), ← i.each b l) h)
-  a.each;
+      (λ e. HasEntries (width_in columns e.0) (width_in columns 0) (slice_index_or inequalities e.0 []) e.1)
+      (λ e. HasEntries (width_of part e.0) (width_of part 0) (inequalities_of m part e.0) e.1)
+      0 (suc (blocks_of part)) lists (omega (arith, a.count, i.count))
+      (λ b x l h. rw (← width_kept part columns b k (omega (arith, l)), ← width_kept part columns 0 k (omega arith), ← i.each b l) h)
+      a.each;
 }
 
 -- an item and its number
@@ -82,19 +85,33 @@ chosen_at : (part : List ℕ) (b : ℕ) (rows : List Ineq) (x : ByPosition) (whi
 chosen_at part b rows x Own h = record { count = h.own.count; each = λ i l n. h.own.each i l n }
 chosen_at part b rows x Master h = record { count = h.master.count; each = λ i l n. h.master.each i l n }
 
--- there is a list for each part
-pub part_within : (m : Model) (part : List ℕ) (lists : List ByPosition) (b : ℕ) → ArePartEntries m part lists → b ≤ blocks_of part → b < length lists
-part_within m part lists b a l = omega (arith, a.count, l)
+own_below : (w : ℕ) (rows : List Ineq) (n : ℕ) → AllByRecursion (λ i. AllBelow w i.own) rows → AllBelow w (own_at rows n)
+own_below w [] n h = tt
+own_below w (i ∷ is) zero h = h.0
+own_below w (i ∷ is) (suc n) h = own_below w is n h.1
+
+master_below : (w : ℕ) (rows : List Ineq) (n : ℕ) → AllByRecursion (λ i. AllBelow w i.master) rows → AllBelow w (master_at rows n)
+master_below w [] n h = tt
+master_below w (i ∷ is) zero h = h.0
+master_below w (i ∷ is) (suc n) h = master_below w is n h.1
+
+terms_below : (part : List ℕ) (b : ℕ) (rows : List Ineq) (which : Terms) (n : ℕ) → RowsFit (width_of part b) (width_of part 0) rows → AllBelow (width_at which part b) (terms_at which rows n)
+terms_below part b rows Own n h = own_below (width_of part b) rows n h.own
+terms_below part b rows Master n h = master_below (width_of part 0) rows n h.master
 
 -- there is a list for each position
-pub position_within : (m : Model) (part : List ℕ) (lists : List ByPosition) (b : ℕ) (x : ByPosition) (which : Terms) (i : ℕ) → ArePartEntries m part lists → b ≤ blocks_of part → x ≡ get_or lists b x → i < width_at which part b → i < length (rows_of which x)
-position_within m part lists b x which i a l e w =
-    let at : AreEntries (width_at which part b) (terms_at which (inequalities_of m part b)) (rows_of which x) = chosen_at part b (inequalities_of m part b) x which (part_at m part lists b x a l e) in
-    rw at.count w
+pub width_told : (m : Model) (part : List ℕ) (lists : List ByPosition) (b : ℕ) (x : ByPosition) (which : Terms) → ArePartEntries m part lists → b ≤ blocks_of part → x ≡ get_or lists b x → length (rows_of which x) ≡ width_at which part b
+width_told m part lists b x which a l e = (chosen_at part b (inequalities_of m part b) x which (part_at m part lists b x a l e)).count
 
--- it is that of the position
-pub entries_told : (m : Model) (part : List ℕ) (lists : List ByPosition) (b : ℕ) (x : ByPosition) (which : Terms) (i : ℕ) (es : List (ℕ × ℤ)) → ArePartEntries m part lists → b ≤ blocks_of part → x ≡ get_or lists b x → i < width_at which part b
-    → es ≡ slice_index_or (rows_of which x) i [] → IsEntriesAt (terms_at which (inequalities_of m part b)) i es
-entries_told m part lists b x which i es a l e w s n =
+-- it is that of the position, and past the last position there is nothing
+pub entries_told : (m : Model) (part : List ℕ) (lists : List ByPosition) (b : ℕ) (x : ByPosition) (which : Terms) → HasItsColumns m → length part ≡ length m.columns → ArePartEntries m part lists → b ≤ blocks_of part → x ≡ get_or lists b x
+    → (i : ℕ) → IsEntriesAt (terms_at which (inequalities_of m part b)) i (slice_index_or (rows_of which x) i [])
+entries_told m part lists b x which h c a l e i n =
     let at : AreEntries (width_at which part b) (terms_at which (inequalities_of m part b)) (rows_of which x) = chosen_at part b (inequalities_of m part b) x which (part_at m part lists b x a l e) in
-    ap (λ (l : List (ℕ × ℤ)). coef l n) s ∙ at.each i w n
+    elim (cases_lt i (width_at which part b)) [
+      | inl w ↦ at.each i w n
+      | inr w ↦
+          let past : length (rows_of which x) ≤ i = omega (arith, at.count, w) in
+          ap (λ (es : List (ℕ × ℤ)). coef es n) (get_or-eq_default (rows_of which x) [] past)
+          ∙ sym (coef_beyond (width_at which part b) (terms_at which (inequalities_of m part b) n) i (terms_below part b (inequalities_of m part b) which n (part_fits m part b h c)) w)
+    ]

@@ -35,10 +35,10 @@ abbrev pub width_in : List (List ℕ) → ℕ → ℕ
 width_in columns b = length (slice_index_or columns b [])
 
 -- those of each list of inequalities, whose parts have these columns
-pub record AreEntryLists (columns : List (List ℕ)) (inequalities : List (List Ineq)) (lists : List ByPosition) : Type 0 where
-  pub count : length lists ≡ length inequalities
+pub record AreEntryLists (columns : List (List ℕ)) (ineqs : List (List Ineq)) (lists : List ByPosition) : Type 0 where
+  pub count : length lists ≡ length ineqs
   pub each : AllByRecursion
-      (λ e. HasEntries (width_in columns e.0) (width_in columns 0) (slice_index_or inequalities e.0 []) e.1)
+      (λ e. HasEntries (width_in columns e.0) (width_in columns 0) (slice_index_or ineqs e.0 []) e.1)
       (enumerate_from 0 lists)
 
 -- those of each part of a model

@@ -59,11 +59,7 @@ fn push_entry(
 }
 
 /// Adds the numbers of the inequality at a place to the rows of their positions.
-fn push_terms(
-    rows: &mut Vec<SparseRow>,
-    place: u32,
-    terms: &SparseRow,
-) -> Result<(), OutOfMemory>
+fn push_terms(rows: &mut Vec<SparseRow>, place: u32, terms: &SparseRow) -> Result<(), OutOfMemory>
     requires inside { AllBelow (length rows.old.items) terms.now }
     requires above { (i : ℕ) → i < length rows.old.items → AllBelow place (slice_index_or rows.old.items i []) }
     ensures { IfOk result (λ _. AreJoined rows.old.items rows.new.items (λ i. entry_at place (coef terms.now i))) }
@@ -138,13 +134,12 @@ pub fn entry_lists(
     Ok(lists)
 }
 
-/// The list of a position.
-pub fn entries_in(entries: &ByPosition, which: Terms, position: u32) -> &SparseRow
-    requires { position < length (rows_of which entries.now) }
-    ensures { result.now ≡ slice_index_or (rows_of which entries.now) position [] }
+/// The lists of the terms that are asked for.
+pub fn chosen_rows(entries: &ByPosition, which: Terms) -> &[SparseRow]
+    ensures { result.now ≡ rows_of which entries.now }
 {
     match which {
-        Terms::Own => &entries.own[position as usize],
-        Terms::Master => &entries.master[position as usize],
+        Terms::Own => entries.own.as_slice(),
+        Terms::Master => entries.master.as_slice(),
     }
 }

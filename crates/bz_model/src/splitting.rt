@@ -1,5 +1,5 @@
 //! Splits: a model with a strict partition of its columns, and the inequalities of each part.
-ghost use Rattle.std.specs.Prelude.{◌≡◌, ◌<◌, ◌≤◌, IfErr, IfOk};
+ghost use Rattle.std.specs.Prelude.{ℕ, ◌≡◌, ◌<◌, ◌≤◌, [], IfErr, IfOk, length, slice_index_or};
 ghost use Rattle.std.specs.List.{AllByRecursion};
 ghost use Rattle.bz_model.specs.Entries.{IsEntriesAt, width_at};
 ghost use Rattle.bz_model.specs.Parting.{blocks_of, columns_of, homes_of, inequalities_of};
@@ -7,7 +7,7 @@ ghost use Rattle.bz_model.specs.Rows.{terms_at};
 ghost use Rattle.bz_model.specs.Splits.{FitsPart, IsSplit};
 ghost use Rattle.bz_model.specs.Strict.{HasItsColumns, IsPartition, IsStrict};
 
-use crate::entries::{Terms, entries_in};
+use crate::entries::{Terms, chosen_rows};
 use crate::kept::{Kept, keep};
 use crate::records;
 use crate::records::Ineq;
@@ -98,13 +98,23 @@ impl Split {
     {
         self.kept.inequalities[part as usize].as_slice()
     }
-    /// What the inequalities of a part have at a position of the part or of the master, by their places in the part's
-    /// list. It takes no memory.
+    /// What the inequalities of a part have at each position of the part or of the master, by their places in the
+    /// part's list. It takes no memory.
+    pub fn entries(&self, part: u32, which: Terms) -> &[SparseRow]
+        requires { part ≤ blocks_of self.now.part }
+        ensures width { length result.now ≡ width_at which self.now.part part }
+        ensures each { (i : ℕ) → IsEntriesAt (terms_at which (inequalities_of self.now.model self.now.part part)) i
+            (slice_index_or result.now i []) }
+    {
+        chosen_rows(&self.kept.entries.as_slice()[part as usize], which)
+    }
+
+    /// What the inequalities of a part have at one position. It takes no memory.
     pub fn entries_at(&self, part: u32, which: Terms, position: u32) -> &SparseRow
         requires part { part ≤ blocks_of self.now.part }
         requires position { position < width_at which self.now.part part }
         ensures { IsEntriesAt (terms_at which (inequalities_of self.now.model self.now.part part)) position result.now }
     {
-        entries_in(&self.kept.entries.as_slice()[part as usize], which, position)
+        &self.entries(part, which)[position as usize]
     }
 }

@@ -56,7 +56,7 @@ coef-missing j (e ∷ es) d none =
     let rest : coef es j ≡ pos 0 = coef-missing j es d (λ k inside same. none (suc k) (omega arith) same) in
     rw t (omega (arith, ints))
 
-cmp-rises : (a b c : ℕ) → a ≤ b → ordering_index (nat_cmp a c) ≤ ordering_index (nat_cmp b c)
+pub cmp-rises : (a b c : ℕ) → a ≤ b → ordering_index (nat_cmp a c) ≤ ordering_index (nat_cmp b c)
 cmp-rises a b c up = grind (arith, nat_tests)
 
 pub equal-columns : (a b : ℕ) → nat_cmp a b ≡ Equal → a ≡ b

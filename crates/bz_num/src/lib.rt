@@ -29,7 +29,7 @@ pub use narrow::{narrow_difference, narrow_negation, narrow_product, narrow_sum}
 pub use products::{Folding, WideSum, fold};
 pub use reduce::primitive;
 pub use row::SparseRow;
-pub use sparse_sums::sparse_sum;
+pub use sparse_sums::{fold_entries, fold_entry, fold_from_column, sparse_sum};
 pub use sums::{Numbers, row_sum, sum_at};
 
 #[cfg(test)]

@@ -1,10 +1,12 @@
 -- The sides of a leaf by their numbers, from the list of the integer columns' positions.
-use Rattle.std.specs.Prelude.{ℕ, pos, negsuc, ◌≡◌, ◌+◌, ◌*◌, ◌<◌, List, [], ◌∷◌, ◌++◌, length, map}
+use Rattle.std.specs.Prelude.{ℕ, pos, negsuc, ◌≡◌, ◌+◌, ◌*◌, ◌<◌, List, [], ◌∷◌, ◌++◌, length, map, slice_index_or}
 use Rattle.std.specs.List.{AllByRecursion, enumerate_from, flat_map}
 use Rattle.std.proofs.Math.IntN.{neg_ℤ}
 use Rattle.bz_algebra.specs.Numbers.{IsNarrow}
 use Rattle.bz_model.specs.declared.Ineq.{Ineq}
+use Rattle.bz_model.specs.Entries.{IsEntriesAt}
 use Rattle.bz_model.specs.Points.{coordinate}
+use Rattle.bz_model.specs.Rows.{own_at}
 use Rattle.bz_cut.specs.declared.Cut.{Cut}
 use Rattle.bz_tree.specs.Boxes.{Box}
 use Rattle.bz_tree.specs.Leaves.{side_of_cut, side_of_master}
@@ -36,8 +38,10 @@ IsNumbered rows integers cuts n (side.OfCut i) = (n ≡ rows + 2 * integers + i)
 abbrev pub sides_in : Sides → List Ineq
 sides_in s = sides_among s.rows.now s.positions.now (record { lower = s.lower.now; upper = s.upper.now }) s.cuts.now
 
--- there is one end of each kind for each integer column, and no number that is turned is wide
+-- there is one end of each kind for each integer column, no number that is turned is wide, and what the master's
+-- inequalities have at a position stands in the position's list
 pub record AreSides (s : Sides) : Type 0 where
   pub lowers : length s.lower.now ≡ length s.positions.now
   pub uppers : length s.upper.now ≡ length s.positions.now
   pub narrow : AllByRecursion IsNarrow s.lower.now
+  pub entries : (i : ℕ) → IsEntriesAt (own_at s.rows.now) i (slice_index_or s.entries.now i [])

@@ -6,7 +6,7 @@ ghost use Rattle.bz_tree.specs.LeafSides.{AreSides, IsNumbered, sides_in};
 
 use bz_cut::Cut;
 use bz_model::Ineq;
-use bz_num::narrow_negation;
+use bz_num::{SparseRow, narrow_negation};
 
 /// A side by its place in its own list.
 #[derive(Clone, Copy)]
@@ -45,6 +45,8 @@ fn side_of(rows: usize, integers: usize, cuts: usize, n: usize) -> Side
 #[derive(Clone, Copy)]
 pub struct Sides<'a> {
     pub rows: &'a [Ineq],
+    /// What the inequalities have at each position, by their numbers.
+    pub entries: &'a [SparseRow],
     pub positions: &'a [u32],
     pub lower: &'a [i128],
     pub upper: &'a [i128],

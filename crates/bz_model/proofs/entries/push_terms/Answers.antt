@@ -42,7 +42,7 @@ loop-entry-preserved c =
     let itself : e ≡ get_or c.args.terms.now k e = get_or_default c.args.terms.now k (0, pos 0) e there in
     let fits : FitsSigned w128 (get_or c.as_slice-entry-items.result.now k (0, pos 0)).1 = search rules in
     let gains : AreJoined c.loop-entry.rows.items c.push_entry.new.rows.items (only_at e.0 (entry_at c.args.place e.1)) =
-        rw (to_z-of_z fits, c.as_slice-entry-items.ensures.value) at c.in_ok-push_entry.ensures in
+    rw (to_z-of_z fits, c.as_slice-entry-items.ensures.value) at c.in_ok-push_entry.ensures in
     term_added c.args.place c.args.terms.now k e c.as_slice-entry-items.ensures.sparse there itself c.loop-entry.invariant gains
 
 pub returns : goal.returns

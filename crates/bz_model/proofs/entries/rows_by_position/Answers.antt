@@ -6,7 +6,7 @@ use Rattle.bz_model.proofs.entries.rows_by_position.Goals as goal
 pub loop-place-preserved : goal.loop-place-preserved
 loop-place-preserved c =
     let terms : c.chosen_terms.result.now ≡ terms_at c.args.which c.args.ineqs.now c.loop-place.place =
-        c.chosen_terms.ensures ∙ terms_at_is c.args.which c.args.ineqs.now c.loop-place.place c.index-ineqs-place.result c.loop-place-test.true c.index-ineqs-place.is in
+    c.chosen_terms.ensures ∙ terms_at_is c.args.which c.args.ineqs.now c.loop-place.place c.index-ineqs-place.result c.loop-place-test.true c.index-ineqs-place.is in
     entries_more c.loop-place.place c.args.width (terms_at c.args.which c.args.ineqs.now) c.loop-place.invariant (rw terms at c.in_ok-push_terms.ensures)
 
 pub returns : goal.returns

@@ -1,26 +1,10 @@
-use Rattle.std.proofs.Common.{◌≡◌, ◌<◌, ◌≤◌, get_or, subst, sym}
-use Rattle.bz_model.specs.Entries.{IsEntriesAt, width_at}
-use Rattle.bz_model.specs.Parting.{blocks_of, inequalities_of}
-use Rattle.bz_model.specs.Rows.{terms_at}
-use Rattle.bz_model.specs.Splits.{Decomposition}
-use Rattle.bz_model.proofs.KeptEntries.{entries_told, position_within}
+use Rattle.std.proofs.Common.{rules, ◌≡◌, ◌<◌, ◌∙◌, [], ap, length, slice_index_or, ℕ, ℤ, List}
+use Rattle.bz_algebra.specs.Sums.{coef}
+use Rattle.bz_model.proofs.ByPosition.{item_is}
 use Rattle.bz_model.proofs.splitting.Split.entries_at.Goals as goal
-
-pub entries_in-requires : goal.entries_in-requires
-entries_in-requires c =
-    let m = c.self.inside.model in
-    let part = c.self.inside.part in
-    let within : c.args.part ≤ blocks_of part = subst (λ (d : Decomposition). c.args.part ≤ blocks_of d.part) (sym c.self.view_is) c.requires.part in
-    let below : c.args.position < width_at c.args.which part c.args.part = subst (λ (d : Decomposition). c.args.position < width_at c.args.which d.part c.args.part) (sym c.self.view_is) c.requires.position in
-    let entry : c.index-as_slice-part.result ≡ get_or c.self.inside.kept.entries c.args.part c.index-as_slice-part.result = rw c.as_slice.ensures at c.index-as_slice-part.is in
-    position_within m part c.self.inside.kept.entries c.args.part c.index-as_slice-part.result c.args.which c.args.position c.self.invariant.1.entries_are within entry below
 
 pub returns : goal.returns
 returns c =
-    let m = c.self.inside.model in
-    let part = c.self.inside.part in
-    let within : c.args.part ≤ blocks_of part = subst (λ (d : Decomposition). c.args.part ≤ blocks_of d.part) (sym c.self.view_is) c.requires.part in
-    let below : c.args.position < width_at c.args.which part c.args.part = subst (λ (d : Decomposition). c.args.position < width_at c.args.which d.part c.args.part) (sym c.self.view_is) c.requires.position in
-    let entry : c.index-as_slice-part.result ≡ get_or c.self.inside.kept.entries c.args.part c.index-as_slice-part.result = rw c.as_slice.ensures at c.index-as_slice-part.is in
-    subst (λ (d : Decomposition). IsEntriesAt (terms_at c.args.which (inequalities_of d.model d.part c.args.part)) c.args.position c.entries_in.result.now) c.self.view_is
-    (entries_told m part c.self.inside.kept.entries c.args.part c.index-as_slice-part.result c.args.which c.args.position c.entries_in.result.now c.self.invariant.1.entries_are within entry below c.entries_in.ensures)
+    let inside : c.args.position < length c.entries.result.now = rw c.entries.ensures.width c.requires.position in
+    let item : c.index-entries-position.result ≡ slice_index_or c.entries.result.now c.args.position [] = item_is c.entries.result.now c.args.position c.index-entries-position.result inside c.index-entries-position.is in
+    λ n. ap (λ (es : List (ℕ × ℤ)). coef es n) item ∙ c.entries.ensures.each c.args.position n
