@@ -7,6 +7,7 @@ ghost use Rattle.bz_node.specs.NodePrograms.{AreLeafNumbers, FitsIn, HasCostLeaf
 use crate::programs::NodeProgram;
 use bz_cut::Mode;
 use bz_judge::judge_leaf;
+use bz_model::Terms;
 use bz_std::{MakeStop, made_leaf};
 use bz_tableau::Vals;
 use bz_tree::{Leaf, Sides};
@@ -21,6 +22,7 @@ fn fits(program: &NodeProgram<'_>, leaf: &Leaf) -> bool
     let region = &program.task.region;
     let sides = Sides {
         rows: program.split.inequalities(0),
+        entries: program.split.entries(0, Terms::Own),
         positions: program.positions,
         lower: region.lower.as_slice(),
         upper: region.upper.as_slice(),
