@@ -109,9 +109,11 @@ module _ (m : Model) (part : List ℕ) (d : IsDecomposed m part) where
   side_kept : (point : Master) (i k : Ineq) → IsSide m part d i → IsSide m part d k → SaysSame i k → SideHolds point i → SideHolds point k
   unfolding SideHolds
   side_kept point i k f g s h =
-      rw (← same_dot width i.master k.master (coordinate point.x) f.master g.master s.master,
-      ← same_dot (blocks_of part) i.own k.own (coordinate point.eta) f.own g.own s.own,
-      ← s.rhs) h
+      rw (
+        ← same_dot width i.master k.master (coordinate point.x) f.master g.master s.master,
+        ← same_dot (blocks_of part) i.own k.own (coordinate point.eta) f.own g.own s.own,
+        ← s.rhs,
+      ) h
 
   sides_kept : (point : Master) (is ks : List Ineq) → AllByRecursion (IsSide m part d) is → AllByRecursion (IsSide m part d) ks → SaySame is ks → AllByRecursion (SideHolds point) is → AllByRecursion (SideHolds point) ks
   sides_kept point [] [] f g s h = tt

@@ -54,7 +54,8 @@ fn is_cost_row(row: &LpRow, split: &Split, block: u32, point: &Master) -> bool
     requires eta { length point.now.eta ≡ blocks_of split.now.part }
     ensures { IsTrue result ↔ IsRowOf (cost_line split.now.model split.now.part point.now block) row.now }
 {
-    are_equal(row.rhs, point.eta.as_slice()[block as usize - 1]) && is_cost(&row.terms, split, block)
+    are_equal(row.rhs, point.eta.as_slice()[block as usize - 1])
+        && is_cost(&row.terms, split, block)
 }
 
 /// Whether the rows are the one that holds a block's cost to its eta in mode Cost, and none in mode Point.
@@ -92,13 +93,7 @@ fn are_separation_rows(
 }
 
 /// Whether the program is the separation program of a block at the master's point, where no right side's sum is wide.
-pub fn is_separation_lp(
-    split: &Split,
-    block: u32,
-    point: &Master,
-    mode: Mode,
-    lp: &Lp,
-) -> bool
+pub fn is_separation_lp(split: &Split, block: u32, point: &Master, mode: Mode, lp: &Lp) -> bool
     requires first { 0 < block }
     requires last { block ≤ blocks_of split.now.part }
     requires point { IsMasterOf split.now.part point.now }
@@ -175,7 +170,13 @@ fn are_box_rows(rows: &[LpRow], split: &Split, lower: &[i128], upper: &[i128]) -
     for (position, number) in split.columns_of(0).iter().enumerate() {
         let column = &columns[*number as usize];
         if column.integer {
-            if !are_ends(&rows[2 * k], &rows[2 * k + 1], position as u32, lower[k], upper[k]) {
+            if !are_ends(
+                &rows[2 * k],
+                &rows[2 * k + 1],
+                position as u32,
+                lower[k],
+                upper[k],
+            ) {
                 return false;
             }
             k += 1;

@@ -153,7 +153,12 @@ fn are_cut_terms(terms: &SparseRow, cut: &Cut, width: u32) -> bool
     let entries = terms.as_slice();
     let eta = width + (cut.block - 1);
     begins_with(entries, &cut.alpha)
-        && ends_with(entries, 2 * cut.alpha.as_slice().len(), eta, narrow_negation(cut.p0))
+        && ends_with(
+            entries,
+            2 * cut.alpha.as_slice().len(),
+            eta,
+            narrow_negation(cut.p0),
+        )
 }
 
 /// Whether the row is that of a cut, over `width` positions of the master.
