@@ -1,5 +1,5 @@
 //! The separation of a block at a posted point.
-ghost use Rattle.std.specs.Prelude.{◌≡◌, ◌<◌, ◌≤◌, IfErr, IfOk, length};
+ghost use Rattle.std.specs.Prelude.{◌≡◌, ◌<◌, ◌≤◌, pos, ◌<ℤ◌, ◌≤ℤ◌, IfErr, IfOk, MatchBool, length};
 ghost use Rattle.bz_num.specs.Dense.{entry};
 ghost use Rattle.bz_model.specs.Parting.{blocks_of};
 ghost use Rattle.bz_tableau.specs.Programs.{IsLp};
@@ -18,12 +18,14 @@ use bz_std::{fitting_cut, separation_lp};
 use bz_tableau::{Answer, Lp, LpStop, Vals};
 use std::alloc::Global;
 
-/// The least rise times the point's denominator: the number of the column behind those of the program.
-fn least_rise(lp: &Lp, z: &Vals) -> i128
+/// Whether the least rise is above 0: the number of the column behind those of the program.
+fn rises(lp: &Lp, z: &Vals) -> bool
     requires { lp.now.columns < length z.now.num }
-    ensures { result ≡ entry z.now.num lp.now.columns }
+    ensures { MatchBool result
+        (pos 0 <ℤ entry z.now.num lp.now.columns)
+        (entry z.now.num lp.now.columns ≤ℤ pos 0) }
 {
-    z.num.as_slice()[lp.columns as usize]
+    0 < z.num.as_slice()[lp.columns as usize]
 }
 
 /// What the program of the separation comes to: with a least rise above 0 the cut of the basis, else the block's part.
@@ -40,7 +42,7 @@ fn find_answer(alloc: Global, split: &Split, task: &SepTask, lp: &Lp) -> Result<
         unreachable!()
     };
     let inequalities = split.inequalities(task.block).len();
-    if 0 < least_rise(lp, &z) {
+    if rises(lp, &z) {
         let raw = eta_multiplier(task.mode, inequalities, y.num.as_slice());
         let made = fitting_cut(alloc, split, task.block, y.num.as_slice(), raw);
         cut_answer(basis, made)

@@ -1,4 +1,4 @@
-use Rattle.std.proofs.Common.{rules, ◌≡◌, ◌+◌, ◌*◌, ◌≤◌, ap, sym, ◌∙◌, length, arith, ℤ, pos, ◌<ℤ◌, ◌≤ℤ◌, true, FitsSigned, to_z-of_z}
+use Rattle.std.proofs.Common.{rules, ◌≡◌, ◌+◌, ◌*◌, ◌≤◌, subst, ℕ, length, arith, ℤ, pos, ◌<ℤ◌, ◌≤ℤ◌, true, FitsSigned, to_z-of_z}
 use Rattle.std.proofs.lemmas.Int.{ints}
 use Rattle.std.specs.Int.{w128}
 use Rattle.bz_num.specs.Dense.{entry}
@@ -36,7 +36,7 @@ fitting_cut-made-requires-clause-inside c =
     let y = c.in-Least.y in
     let l : IsLeast true (program_of lp) c.in-Least.basis z y = rw c.in-Least.is at c.in_ok-basis.ensures.answers in
     let count = multipliers_count m part d task.block task.point task.mode lp c.requires.program c.in-Least.basis z y l in
-    rw c.as_slice-then-least_rise-gt0.ensures (omega (arith, count))
+    rw c.as_slice-then-rises.ensures (omega (arith, count))
 
 pub fitting_cut-made-requires-clause-balanced : goal.fitting_cut-made-requires-clause-balanced
 fitting_cut-made-requires-clause-balanced c =
@@ -50,7 +50,7 @@ fitting_cut-made-requires-clause-balanced c =
     let l : IsLeast true (program_of lp) c.in-Least.basis z y = rw c.in-Least.is at c.in_ok-basis.ensures.answers in
     let fits_raw : FitsSigned w128 c.eta_multiplier-raw.result = search rules in
     let raw_is : c.eta_multiplier-raw.result ≡ cost_multiplier task.mode (length (inequalities_of m part task.block)) (entry y.num) = rw (c.inequalities-inequalities.ensures.value, c.as_slice.ensures) at c.eta_multiplier-raw.ensures in
-    rw (to_z-of_z fits_raw, raw_is, c.as_slice-then-least_rise-gt0.ensures) (balances m part d task.block task.point task.mode lp c.requires.program c.in-Least.basis z y l)
+    rw (to_z-of_z fits_raw, raw_is, c.as_slice-then-rises.ensures) (balances m part d task.block task.point task.mode lp c.requires.program c.in-Least.basis z y l)
 
 pub fitting_cut-made-requires-clause-some : goal.fitting_cut-made-requires-clause-some
 fitting_cut-made-requires-clause-some c =
@@ -64,14 +64,11 @@ fitting_cut-made-requires-clause-some c =
     let l : IsLeast true (program_of lp) c.in-Least.basis z y = rw c.in-Least.is at c.in_ok-basis.ensures.answers in
     let fits_raw : FitsSigned w128 c.eta_multiplier-raw.result = search rules in
     let raw_is : c.eta_multiplier-raw.result ≡ cost_multiplier task.mode (length (inequalities_of m part task.block)) (entry y.num) = rw (c.inequalities-inequalities.ensures.value, c.as_slice.ensures) at c.eta_multiplier-raw.ensures in
-    let fits : FitsSigned w128 c.least_rise.result = search rules in
-    let at_end : c.least_rise.result ≡ entry z.num (2 * width_of part task.block) = c.least_rise.ensures ∙ ap (entry z.num) c.requires.program.program.columns in
-    let tested = rw (to_z-of_z fits) at c.if-least_rise-gt0.true in
-    let above : (pos 0) <ℤ (entry z.num (2 * width_of part task.block)) = omega (arith, ints, tested, at_end) in
-    rw (to_z-of_z fits_raw, raw_is, c.as_slice-then-least_rise-gt0.ensures) (makes_some m part d task.block task.point task.mode lp c.requires.program c.in-Least.basis z y l above)
+    let above : (pos 0) <ℤ (entry z.num (2 * width_of part task.block)) = subst (λ (n : ℕ). (pos 0) <ℤ (entry z.num n)) c.requires.program.program.columns c.if-rises.ensures in
+    rw (to_z-of_z fits_raw, raw_is, c.as_slice-then-rises.ensures) (makes_some m part d task.block task.point task.mode lp c.requires.program c.in-Least.basis z y l above)
 
-pub returns-then-least_rise-gt0 : goal.returns-then-least_rise-gt0
-returns-then-least_rise-gt0 c =
+pub returns-then-rises : goal.returns-then-rises
+returns-then-rises c =
     let m = c.args.split.now.model in
     let part = c.args.split.now.part in
     let task = c.args.task.now in
@@ -82,13 +79,10 @@ returns-then-least_rise-gt0 c =
     let l : IsLeast true (program_of lp) c.in-Least.basis z y = rw c.in-Least.is at c.in_ok-basis.ensures.answers in
     let fits_raw : FitsSigned w128 c.eta_multiplier-raw.result = search rules in
     let raw_is : c.eta_multiplier-raw.result ≡ cost_multiplier task.mode (length (inequalities_of m part task.block)) (entry y.num) = rw (c.inequalities-inequalities.ensures.value, c.as_slice.ensures) at c.eta_multiplier-raw.ensures in
-    let fits : FitsSigned w128 c.least_rise.result = search rules in
-    let at_end : c.least_rise.result ≡ entry z.num (2 * width_of part task.block) = c.least_rise.ensures ∙ ap (entry z.num) c.requires.program.program.columns in
-    let tested = rw (to_z-of_z fits) at c.if-least_rise-gt0.true in
-    let above : (pos 0) <ℤ (entry z.num (2 * width_of part task.block)) = omega (arith, ints, tested, at_end) in
+    let above : (pos 0) <ℤ (entry z.num (2 * width_of part task.block)) = subst (λ (n : ℕ). (pos 0) <ℤ (entry z.num n)) c.requires.program.program.columns c.if-rises.ensures in
     rw c.cut_answer.ensures (cut_answers m part d task.block task.point task.mode lp c.requires.program c.in-Least.basis z y l above c.fitting_cut-made.result
-    (rw (to_z-of_z fits_raw, raw_is, c.as_slice-then-least_rise-gt0.ensures) at c.fitting_cut-made.ensures.cut)
-    (rw (to_z-of_z fits_raw, raw_is, c.as_slice-then-least_rise-gt0.ensures) at c.fitting_cut-made.ensures.stop))
+    (rw (to_z-of_z fits_raw, raw_is, c.as_slice-then-rises.ensures) at c.fitting_cut-made.ensures.cut)
+    (rw (to_z-of_z fits_raw, raw_is, c.as_slice-then-rises.ensures) at c.fitting_cut-made.ensures.stop))
 
 pub judged_fill-requires-clause-meets : goal.judged_fill-requires-clause-meets
 judged_fill-requires-clause-meets c =
@@ -100,11 +94,9 @@ judged_fill-requires-clause-meets c =
     let z = c.in-Least.z in
     let y = c.in-Least.y in
     let l : IsLeast true (program_of lp) c.in-Least.basis z y = rw c.in-Least.is at c.in_ok-basis.ensures.answers in
-    let fits : FitsSigned w128 c.least_rise.result = search rules in
-    let at_end : c.least_rise.result ≡ entry z.num (2 * width_of part task.block) = c.least_rise.ensures ∙ ap (entry z.num) c.requires.program.program.columns in
-    let tested = rw (to_z-of_z fits) at c.if-least_rise-gt0.false in
+    let below : (entry z.num (2 * width_of part task.block)) ≤ℤ (pos 0) = subst (λ (n : ℕ). (entry z.num n) ≤ℤ (pos 0)) c.requires.program.program.columns c.if-rises.ensures in
     let r = rise m part d task.block task.point task.mode lp c.requires.program c.in-Least.basis z y l in
-    rise_meets _ _ _ _ _ _ r (omega (arith, ints, r.nonnegative, tested, at_end))
+    rise_meets _ _ _ _ _ _ r (omega (arith, ints, r.nonnegative, below))
 
 pub returns : goal.returns
 returns c =
