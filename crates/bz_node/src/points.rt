@@ -47,9 +47,9 @@ fn point_of(
     requires positive { pos 0 <ℤ den }
     ensures { IfOk result (IsPointOf split.now.part den (entry numbers.items)) }
 {
-    let (den, values) = lowest(numbers, den);
+    let (low, values) = lowest(numbers, den);
     let (x, eta) = parted(alloc, values.as_slice(), split.width(0) as usize)?;
-    Ok(Master { den, x, eta })
+    Ok(Master { den: low, x, eta })
 }
 
 /// The answer of a node at whose least point z each integer column is whole; its variables have these numbers. Where a
