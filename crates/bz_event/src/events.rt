@@ -1,12 +1,11 @@
 //! What a search appends to its history.
 
+use crate::answers::Solved;
 use bz_cut::Cut;
 use bz_model::{BlockPart, Master};
 use bz_num::Items;
 use bz_tableau::WideAt;
 use bz_tree::Leaf;
-
-use crate::answers::Solved;
 
 /// Who appended an entry.
 #[derive(Clone, Copy, Debug, PartialEq, Eq)]
@@ -29,7 +28,10 @@ pub enum How {
         value: i128,
     },
     /// The leaf over the first `front` cuts shows that nothing better lies in its box.
-    Leaf { front: u32, leaf: Leaf },
+    Leaf {
+        front: u32,
+        leaf: Leaf,
+    },
 }
 
 /// Why a search ends before its time.
@@ -52,7 +54,10 @@ pub enum Event {
         cut: Cut,
     },
     /// The block's cost falls without bound along the direction: from here on any point will do.
-    Ray { block: u32, d: Items<i128> },
+    Ray {
+        block: u32,
+        d: Items<i128>,
+    },
     /// The point meets the node and the first `front` cuts; in mode Cost with the leaf that bounds the node's cost by the
     /// point's.
     Post {
@@ -80,11 +85,18 @@ pub enum Event {
         y: BlockPart,
     },
     /// The posted point, with its completions, is the best so far.
-    Incumbent { post: u32 },
+    Incumbent {
+        post: u32,
+    },
     /// The node needs no further work.
-    Close { node: u32, how: How },
+    Close {
+        node: u32,
+        how: How,
+    },
     /// The search ends.
-    Stop { why: Why },
+    Stop {
+        why: Why,
+    },
 }
 
 /// An event with who appended it.

@@ -98,7 +98,7 @@ fn fold_box(
     ensures steps { Steps multipliers.now
         (numbers_from (length sides.now.rows.now) (master_number sides.now position))
         (numbers_from (length sides.now.rows.now + 2 * length sides.now.positions.now)
-            (master_number sides.now position))
+        (master_number sides.now position))
         folding.old folding.new result }
 {
     for (k, integer) in sides.positions.iter().enumerate() {
