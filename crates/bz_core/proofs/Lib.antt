@@ -2,6 +2,7 @@ pub mod BestSteps
 pub mod CoverSteps
 pub mod FinishedSearches
 pub mod Growing
+pub mod LeafSteps
 pub mod Lists
 pub mod PoolSteps
 pub mod PostSteps

@@ -2,6 +2,7 @@
 ghost use Rattle.bz_core.specs.Covers.{NothingBetterIsLost};
 ghost use Rattle.bz_core.specs.Finished.{FinishedSearchesAreTrue, RaysAreTrue};
 ghost use Rattle.bz_core.specs.Histories.{CountsRise};
+ghost use Rattle.bz_core.specs.Leaves.{LeavesAreRight};
 ghost use Rattle.bz_core.specs.Pools.{PoolsAreRight};
 ghost use Rattle.bz_core.specs.Posts.{PostsAreRight};
 ghost use Rattle.bz_core.specs.Trees.{TreesAreWhole};
@@ -27,6 +28,11 @@ pub fn posts_are_right()
 /// that holds over its own front.
 pub fn trees_are_whole()
     ensures { TreesAreWhole }
+{}
+
+/// Each closing leaf is empty, or its bound is no less than the value of the best post now.
+pub fn leaves_are_right()
+    ensures { LeavesAreRight }
 {}
 
 /// Nothing better is lost: each feasible point that is better than the best post so far, or each where there is none, lies in
