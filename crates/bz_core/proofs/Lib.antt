@@ -1,4 +1,5 @@
 pub mod BestSteps
+pub mod CertificateTrees
 pub mod CoverSteps
 pub mod FinishedSearches
 pub mod Growing

@@ -1,3 +1,4 @@
+pub mod Certificates
 pub mod Covers
 pub mod Finished
 pub mod Histories

@@ -1,4 +1,5 @@
 //! What is true of every legal history.
+ghost use Rattle.bz_core.specs.Certificates.{CertificatesAreRight};
 ghost use Rattle.bz_core.specs.Covers.{NothingBetterIsLost};
 ghost use Rattle.bz_core.specs.Finished.{FinishedSearchesAreTrue, RaysAreTrue};
 ghost use Rattle.bz_core.specs.Histories.{CountsRise};
@@ -50,4 +51,10 @@ pub fn finished_searches_are_true()
 /// In mode Point a best post shows that the model is unbounded.
 pub fn rays_are_true()
     ensures { RaysAreTrue }
+{}
+
+/// Where no node is open there is a tree below the first one, and with it the cuts and the best post's parts show what a
+/// certificate has to show, without a wide sum in the cuts or the leaves.
+pub fn certificates_are_right()
+    ensures { CertificatesAreRight }
 {}
