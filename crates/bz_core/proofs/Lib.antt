@@ -5,6 +5,7 @@ pub mod FinishedSearches
 pub mod Growing
 pub mod LeafSteps
 pub mod Lists
+pub mod LiveSteps
 pub mod PoolSteps
 pub mod PostSteps
 pub mod RaySteps

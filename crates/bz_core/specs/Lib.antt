@@ -3,6 +3,7 @@ pub mod Covers
 pub mod Finished
 pub mod Histories
 pub mod Leaves
+pub mod Lives
 pub mod Pools
 pub mod Posts
 pub mod States

@@ -4,6 +4,7 @@ ghost use Rattle.bz_core.specs.Covers.{NothingBetterIsLost};
 ghost use Rattle.bz_core.specs.Finished.{FinishedSearchesAreTrue, RaysAreTrue};
 ghost use Rattle.bz_core.specs.Histories.{CountsRise};
 ghost use Rattle.bz_core.specs.Leaves.{LeavesAreRight};
+ghost use Rattle.bz_core.specs.Lives.{LivesAreRight};
 ghost use Rattle.bz_core.specs.Pools.{PoolsAreRight};
 ghost use Rattle.bz_core.specs.Posts.{PostsAreRight};
 ghost use Rattle.bz_core.specs.Trees.{TreesAreWhole};
@@ -34,6 +35,12 @@ pub fn trees_are_whole()
 /// Each closing leaf is empty, or its bound is no less than the value of the best post now.
 pub fn leaves_are_right()
     ensures { LeavesAreRight }
+{}
+
+/// The live post of a node is one of its own that nothing has ended, and each such post is the live one of its node, which
+/// is open.
+pub fn lives_are_right()
+    ensures { LivesAreRight }
 {}
 
 /// Nothing better is lost: each feasible point that is better than the best post so far, or each where there is none, lies in
