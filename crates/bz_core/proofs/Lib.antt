@@ -6,6 +6,7 @@ pub mod Growing
 pub mod LeafSteps
 pub mod Lists
 pub mod LiveSteps
+pub mod MeasureSteps
 pub mod PoolSteps
 pub mod PostSteps
 pub mod RaySteps

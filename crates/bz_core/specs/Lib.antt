@@ -4,6 +4,7 @@ pub mod Finished
 pub mod Histories
 pub mod Leaves
 pub mod Lives
+pub mod Measures
 pub mod Pools
 pub mod Posts
 pub mod States

@@ -5,6 +5,7 @@ ghost use Rattle.bz_core.specs.Finished.{FinishedSearchesAreTrue, RaysAreTrue};
 ghost use Rattle.bz_core.specs.Histories.{CountsRise};
 ghost use Rattle.bz_core.specs.Leaves.{LeavesAreRight};
 ghost use Rattle.bz_core.specs.Lives.{LivesAreRight};
+ghost use Rattle.bz_core.specs.Measures.{NodesAreFew};
 ghost use Rattle.bz_core.specs.Pools.{PoolsAreRight};
 ghost use Rattle.bz_core.specs.Posts.{PostsAreRight};
 ghost use Rattle.bz_core.specs.Trees.{TreesAreWhole};
@@ -41,6 +42,11 @@ pub fn leaves_are_right()
 /// is open.
 pub fn lives_are_right()
     ensures { LivesAreRight }
+{}
+
+/// The nodes that are there, with those that may still come, are at most twice the whole points of the root's box, less one.
+pub fn nodes_are_few()
+    ensures { NodesAreFew }
 {}
 
 /// Nothing better is lost: each feasible point that is better than the best post so far, or each where there is none, lies in
