@@ -1,11 +1,10 @@
 -- The tree of a search without an open node, and what its certificate shows.
-use Rattle.std.proofs.Common.{◌≡◌, refl, sym, ◌∙◌, ap, subst, ℕ, zero, suc, ◌+◌, ◌<◌, ◌≤◌, List, [], ◌∷◌, ◌++◌, length, inl, inr, arith, ℤ, pos, ◌+ℤ◌, ◌*ℤ◌, ◌≤ℤ◌, ◌<ℤ◌}
+use Rattle.std.proofs.Common.{◌≡◌, refl, sym, ◌∙◌, ap, subst, ℕ, zero, suc, ◌+◌, ◌<◌, ◌≤◌, List, [], ◌∷◌, length, inl, inr, arith, ℤ, pos, ◌+ℤ◌, ◌*ℤ◌, ◌≤ℤ◌}
 use Rattle.std.proofs.lemmas.Int.{ints}
 use Rattle.std.proofs.lemmas.List.{take-append-drop}
 use Rattle.std.proofs.lemmas.Option.{slice_get_within}
-use Rattle.std.specs.Prelude.{◌⊎◌, Option, Some, None, Bool, true, false, drop, is_none, take}
-use Rattle.std.specs.List.{AllByRecursion, enumerate_from, list_any, slice_get}
-use Rattle.bz_model.specs.Decomposed.{IsDecomposed}
+use Rattle.std.specs.Prelude.{Option, Some, None, false, drop, is_none, take}
+use Rattle.std.specs.List.{AllByRecursion, enumerate_from, list_any}
 use Rattle.bz_model.specs.PartPoints.{BlockHolds}
 use Rattle.bz_model.specs.Splits.{Decomposition}
 use Rattle.bz_cut.specs.declared.Cut.{Cut}
@@ -19,18 +18,15 @@ use Rattle.bz_tree.specs.Trees.{EachLeaf, HoldsOver, IsEmpty, IsSplitOf, Reaches
 use Rattle.bz_tree.specs.Verdicts.{PassesInfeasible, PassesOptimal}
 use Rattle.bz_tree.proofs.MoreCuts.{leaves_keep}
 use Rattle.bz_pass.proofs.PointsOfParts.{AreFeasible}
-use Rattle.bz_event.specs.declared.events.Entry.{Entry}
 use Rattle.bz_event.specs.declared.events.How.{How}
 use Rattle.bz_event.specs.declared.events.How.TheVariants as how
 use Rattle.bz_event.specs.Nodes.{value_of}
 use Rattle.bz_core.specs.declared.state.Closing.{Closing}
-use Rattle.bz_core.specs.declared.state.Filled.{Filled}
 use Rattle.bz_core.specs.declared.state.Node.{Node}
 use Rattle.bz_core.specs.declared.state.Post.{Post}
 use Rattle.bz_core.specs.declared.state.Region.{Region}
-use Rattle.bz_core.specs.Certificates.{CertificateIsRight, CertificatesAreRight, IsForkAt, IsTipAt, IsTreeAt}
+use Rattle.bz_core.specs.Certificates.{CertificatesAreRight, IsForkAt, IsTipAt, IsTreeAt}
 use Rattle.bz_core.specs.Finished.{completions, parts_of}
-use Rattle.bz_core.specs.Histories.{IsReplay}
 use Rattle.bz_core.specs.Leaves.{IsClosedBy, LeavesReach}
 use Rattle.bz_core.specs.Pools.{IsPoolOf}
 use Rattle.bz_core.specs.Posts.{IsPostOf}
@@ -72,12 +68,15 @@ node_tree d cuts nodes none n x is ended later = by x.closing refl
         let after : n < closing.kids = s.later in
         let next : n < suc closing.kids = omega arith in
         let a : (t : Tree) × IsTreeAt nodes closing.kids t = later closing.kids after first in
-        let b : (t : Tree) × IsTreeAt nodes (suc closing.kids) t = later (suc closing.kids) next second in
-        (Tree.fork position value (value +ℤ pos 1) a.0 b.0,
-            (closing.kids, record { node = x; is_node = is; closing = closing; closed = closed; front = front; basis = basis; by_split = by_split; next = refl; kids_are = refl }, a.1, b.1))
+        let b : (t : Tree) × IsTreeAt nodes (suc closing.kids) t = later (suc closing.kids) next second in (
+          Tree.fork position value (value +ℤ pos 1) a.0 b.0,
+          (closing.kids, record { node = x; is_node = is; closing = closing; closed = closed; front = front; basis = basis; by_split = by_split; next = refl; kids_are = refl }, a.1, b.1),
+        )
+
     end : (closing : Closing) → x.closing ≡ Some closing → (h : How) → closing.how ≡ h → (t : Tree) × IsTreeAt nodes n t
     end closing closed (how.Leaf front leaf) by_leaf = (Tree.tip leaf, record { node = x; is_node = is; closing = closing; closed = closed; front = front; by_leaf = by_leaf })
     end closing closed (how.Split front basis position value) by_split = fork closing closed front basis position value by_split
+
     by : (o : Option Closing) → x.closing ≡ o → (t : Tree) × IsTreeAt nodes n t
     by None no_end = absurd (none_open nodes n x none is (ap (λ (o : Option Closing). is_none o) no_end))
     by (Some closing) closed = end closing closed closing.how refl
@@ -103,32 +102,35 @@ tip_leaf : (d : Decomposition) (root : Region) (cuts : List Cut) (nodes : List N
 tip_leaf d root cuts nodes n region leaf tree here t =
     let own : t.node.region ≡ region = ap (λ (x : Node). x.region) (at_one nodes n t.node here.node t.is_node here.is_node) ∙ here.region_is in
     subst (λ (r : Region). IsLeafAt d cuts r t.front leaf) own
-        (leaf_of d cuts nodes n t.node.region t.closing t.front leaf t.by_leaf (subst (IsEndedRight d cuts nodes n t.node.region) t.closed (tree.each n t.node t.is_node)))
+    (leaf_of d cuts nodes n t.node.region t.closing t.front leaf t.by_leaf (subst (IsEndedRight d cuts nodes n t.node.region) t.closed (tree.each n t.node t.is_node)))
 
 -- the split of a fork, over the region of its node
 fork_split : (d : Decomposition) (root : Region) (cuts : List Cut) (nodes : List Node) (n position : ℕ) (left right : ℤ) (kids : ℕ) (region : Region) → IsTree d root cuts nodes → HasRegion nodes n region → IsForkAt nodes n position left right kids → IsSplitAt d nodes n region position left kids
 fork_split d root cuts nodes n position left right kids region tree here f =
     let own : f.node.region ≡ region = ap (λ (x : Node). x.region) (at_one nodes n f.node here.node f.is_node here.is_node) ∙ here.region_is in
     subst (λ (r : Region). IsSplitAt d nodes n r position left kids) own
-        (subst (IsSplitAt d nodes n f.node.region position left) f.kids_are
-            (split_of d cuts nodes n f.node.region f.closing f.front f.basis position left f.by_split (subst (IsEndedRight d cuts nodes n f.node.region) f.closed (tree.each n f.node f.is_node))))
+    (subst (IsSplitAt d nodes n f.node.region position left) f.kids_are
+    (split_of d cuts nodes n f.node.region f.closing f.front f.basis position left f.by_split (subst (IsEndedRight d cuts nodes n f.node.region) f.closed (tree.each n f.node f.is_node))))
 
 holds_below : (d : Decomposition) (root : Region) (cuts : List Cut) (nodes : List Node) → IsTree d root cuts nodes → (tree : Tree) (n : ℕ) (region : Region) → HasRegion nodes n region → IsTreeAt nodes n tree → HoldsOver d.model d.part cuts (box_of region) tree
 holds_below d root cuts nodes t (Tree.tip leaf) n region here at = holds_over_all d cuts region at.front leaf (tip_leaf d root cuts nodes n region leaf t here at)
 holds_below d root cuts nodes t (Tree.fork position left right a b) n region here (kids, fork, at_a, at_b) =
     let s : IsSplitAt d nodes n region position left kids = fork_split d root cuts nodes n position left right kids region t here fork in
-    let k : ℕ = integer_at d.model d.part position in
-    (k, subst (λ (r : ℤ). IsSplitOf d.model d.part k position left r) (sym fork.next) s.is_split,
-        holds_below d root cuts nodes t a kids (below k left region) s.left at_a,
-        subst (λ (r : ℤ). HoldsOver d.model d.part cuts (with_lower k r (box_of region)) b) (sym fork.next) (holds_below d root cuts nodes t b (suc kids) (above k left region) s.right at_b))
+    let k : ℕ = integer_at d.model d.part position in (
+      k,
+      subst (λ (r : ℤ). IsSplitOf d.model d.part k position left r) (sym fork.next) s.is_split,
+      holds_below d root cuts nodes t a kids (below k left region) s.left at_a,
+      subst (λ (r : ℤ). HoldsOver d.model d.part cuts (with_lower k r (box_of region)) b) (sym fork.next) (holds_below d root cuts nodes t b (suc kids) (above k left region) s.right at_b),
+    )
 
 fits_below : (d : Decomposition) (root : Region) (cuts : List Cut) (nodes : List Node) → IsTree d root cuts nodes → (tree : Tree) (n : ℕ) (region : Region) → HasRegion nodes n region → IsTreeAt nodes n tree → FitsTree d.model d.part cuts (box_of region) tree
 fits_below d root cuts nodes t (Tree.tip leaf) n region here at = fits_over_all d cuts region at.front leaf (tip_leaf d root cuts nodes n region leaf t here at)
 fits_below d root cuts nodes t (Tree.fork position left right a b) n region here (kids, fork, at_a, at_b) =
     let s : IsSplitAt d nodes n region position left kids = fork_split d root cuts nodes n position left right kids region t here fork in
-    let k : ℕ = integer_at d.model d.part position in
-    (fits_below d root cuts nodes t a kids (below k left region) s.left at_a,
-        subst (λ (r : ℤ). FitsTree d.model d.part cuts (with_lower k r (box_of region)) b) (sym fork.next) (fits_below d root cuts nodes t b (suc kids) (above k left region) s.right at_b))
+    let k : ℕ = integer_at d.model d.part position in (
+      fits_below d root cuts nodes t a kids (below k left region) s.left at_a,
+      subst (λ (r : ℤ). FitsTree d.model d.part cuts (with_lower k r (box_of region)) b) (sym fork.next) (fits_below d root cuts nodes t b (suc kids) (above k left region) s.right at_b),
+    )
 
 -- what each closing leaf has, each leaf of the tree has
 each_below : (nodes : List Node) (P : Leaf → Type 0) → ((leaf : Leaf) → IsClosedBy nodes leaf → P leaf) → (tree : Tree) (n : ℕ) → IsTreeAt nodes n tree → EachLeaf P tree
@@ -164,12 +166,16 @@ certificates_are_right d budget root es t dec r none = record { has_tree = has_t
   where
     whole : IsTree d root t.cuts t.nodes
     whole = trees_are_whole d budget root es t r
+
     pool : IsPoolOf d es t
     pool = pools_are_right d budget root es t r
+
     leaves : LeavesReach d t
     leaves = leaves_are_right d budget root es t r
+
     has_tree : (tree : Tree) × IsTreeAt t.nodes 0 tree
     has_tree = tree_below d root t.cuts t.nodes whole none (length t.nodes) 0 (omega arith) (slice_get_within t.nodes 0 whole.first.node whole.first.is_node)
+
     infeasible : t.best ≡ None → (tree : Tree) → IsTreeAt t.nodes 0 tree → PassesInfeasible d.model d.part t.cuts (preorder tree)
     infeasible no_best tree at = record {
       cuts = pool.valid;
@@ -180,6 +186,7 @@ certificates_are_right d budget root es t dec r none = record { has_tree = has_t
       holds = holds_below d root t.cuts t.nodes whole tree 0 root whole.first at;
       empty = each_below t.nodes IsEmpty (λ leaf c. empty_without d t leaf no_best (leaves leaf c)) tree 0 at;
     }
+
     optimal : mode_of t ≡ mode.Cost → (post : Post) → IsBest t post → (tree : Tree) → IsTreeAt t.nodes 0 tree → PassesOptimal d.model d.part (parts_of post) (value_of d.model d.part post.point) t.cuts (preorder tree)
     optimal cost post best tree at =
         let b : (x : Post) × IsAt t.posts best.0 x × IsFilled x = best_is_filled d budget root es t r best.0 best.1 in

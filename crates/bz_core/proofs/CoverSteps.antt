@@ -117,12 +117,16 @@ split_covered d t number front basis position value may p q feasible lies =
   where
     k : ℕ
     k = integer_at d.model d.part position
+
     closed : List Node
     closed = changed (closed_by (how.Split front basis position value) t.entries (length t.nodes)) t.nodes number
+
     left : Node
     left = side (length t.cuts) (below k value may.waiting.region)
+
     right : Node
     right = side (length t.cuts) (above k value may.waiting.region)
+
     by : LiesIn d.model (box_of (below k value may.waiting.region)) p q ⊎ LiesIn d.model (box_of (above k value may.waiting.region)) p q → IsCovered d (closed ++ left ∷ right ∷ []) p q
     by (inl g) = covered_fresh d closed (left ∷ right ∷ []) 0 left p q refl refl g
     by (inr g) = covered_fresh d closed (left ∷ right ∷ []) 1 right p q refl refl g
@@ -175,7 +179,7 @@ unbeaten_kept : (d : Decomposition) (t u : State) (p : List ℤ) (q : ℤ) → m
 unbeaten_kept d t u p q way best posts h cost b is =
     let k : (y : Post) × IsAt u.posts is.0 y × (y.point ≡ b.point) = posts is.0 b is.2 in
     subst (λ (point : Master). IsBelow (dot (inner_cost d.model) (coordinate p)) q (value_of d.model d.part point) point.den) k.2
-        (h (way ∙ cost) k.0 (is.0, best ∙ is.1, k.1))
+    (h (way ∙ cost) k.0 (is.0, best ∙ is.1, k.1))
 
 -- ---- a leaf
 all_front : {X : Type 0} (P : X → Type 0) (n : ℕ) (xs : List X) → AllByRecursion P xs → AllByRecursion P (take n xs)
@@ -199,13 +203,14 @@ leaf_excludes d t number front leaf p q dec running valid posts may feasible bet
   where
     fronts : AllByRecursion (IsValid d.model d.part) (take front t.cuts)
     fronts = all_front (IsValid d.model d.part) front t.cuts valid
+
     by : ReachesBest d t leaf → ⊥
     by (inl empty) = leaf_empties d.model d.part (box_of may.node.region) (take front t.cuts) leaf p q dec fronts may.holds empty feasible lies
     by (inr (best, is_best, positive, reach)) =
         let cost : mode_of t ≡ mode.Cost = cost_while_running (is_some t.stop) (not (list_any is_open t.nodes)) t.ray t.best is_best.0 running is_best.1 in
         let bounds = leaf_bounds d.model d.part (box_of may.node.region) (take front t.cuts) leaf p q dec fronts may.holds feasible lies in
         not_bounded (dot (inner_cost d.model) (coordinate p)) q (value_of d.model d.part best.point) best.point.den leaf.delta leaf.bound positive feasible.positive
-            ((posts is_best.0 best is_best.2).posted.shape.den) reach bounds (better cost best is_best)
+        ((posts is_best.0 best is_best.2).posted.shape.den) reach bounds (better cost best is_best)
 
 -- ---- each event
 close_cover : (d : Decomposition) (t : State) (number : ℕ) (h : How) → IsDecomposed d.model d.part → is_done t ≡ false → AllByRecursion (IsValid d.model d.part) t.cuts → ArePosts d t → IsClosing d t number h → KeepsBetterPoints d t
@@ -215,16 +220,18 @@ close_cover d t number (how.Split front basis position value) dec running valid 
   where
     c : IsCovered d t.nodes p q
     c = old p q feasible better
+
     here : c.number ≡ number → IsCovered d (changed (closed_by (how.Split front basis position value) t.entries (length t.nodes)) t.nodes number ++ sides_opened d (length t.cuts) (how.Split front basis position value) (slice_get t.nodes number)) p q
     here e =
         let own : c.node ≡ may.waiting = at_one t.nodes number c.node may.waiting (subst (λ (k : ℕ). IsAt t.nodes k c.node) e c.is_node) may.waits.is_node in
         let lies : LiesIn d.model (box_of may.waiting.region) p q = subst (λ (x : Node). LiesIn d.model (box_of x.region) p q) own c.lies in
         subst (λ (o : Option Node). IsCovered d (changed (closed_by (how.Split front basis position value) t.entries (length t.nodes)) t.nodes number ++ sides_opened d (length t.cuts) (how.Split front basis position value) o) p q) (sym may.waits.is_node)
-            (split_covered d t number front basis position value may p q feasible lies)
+        (split_covered d t number front basis position value may p q feasible lies)
 close_cover d t number (how.Leaf front leaf) dec running valid posts may old p q feasible better = elim (cases_eq c.number number) [ inl e ↦ absurd (here e) | inr other ↦ covered_other d (how.Leaf front leaf) t.entries (length t.nodes) t.nodes [] number p q c other ]
   where
     c : IsCovered d t.nodes p q
     c = old p q feasible better
+
     here : c.number ≡ number → ⊥
     here e =
         let own : c.node ≡ may.node = at_one t.nodes number c.node may.node (subst (λ (k : ℕ). IsAt t.nodes k c.node) e c.is_node) may.is_node in
@@ -242,7 +249,7 @@ incumbent_unbeaten d t number may posts p q feasible h cost b is =
     let new : IsBelow (dot (inner_cost d.model) (coordinate p)) q (value_of d.model d.part may.post.point) may.post.point.den = h cost may.post (number, refl, may.is_post) in
     let better : IsBetter d t mode.Cost (value_of d.model d.part may.post.point) may.post.point.den = subst (λ (w : Mode). IsBetter d t w (value_of d.model d.part may.post.point) may.post.point.den) cost may.better in
     below_chain (dot (inner_cost d.model) (coordinate p)) may.post.point.den (value_of d.model d.part may.post.point) q (value_of d.model d.part b.point) b.point.den
-        (posts number may.post may.is_post).posted.shape.den feasible.positive (posts is.0 b is.2).posted.shape.den new (better b is)
+    (posts number may.post may.is_post).posted.shape.den feasible.positive (posts is.0 b is.2).posted.shape.den new (better b is)
 
 cover_step : (d : Decomposition) (budget : ℕ) (cs : List Cut) (t : State) (e : Event) → IsDecomposed d.model d.part → is_done t ≡ false → MayFollow d budget t e → IsPooled d cs t → ArePosts d t → KeepsBetterPoints d t → KeepsBetterPoints d (effect d t e)
 cover_step d budget cs t (event.Floor block basis cut) dec running may pool posts h = h
@@ -251,21 +258,21 @@ cover_step d budget cs t (event.Ray block direction) dec running may pool posts 
     λ p q feasible better. h p q feasible (λ cost b is. absurd (none_best t b early.no_posts is))
 cover_step d budget cs t (event.Post node front point leaf) dec running may pool posts h =
     cover_kept d t (effect d t (event.Post node front point leaf)) (open_changed (posted_by (length t.posts)) t.nodes node (λ x. refl) (λ x. refl))
-        (λ p q feasible. unbeaten_kept d t (effect d t (event.Post node front point leaf)) p q refl refl (points_with t.posts (posted_point d t.entries node front point leaf ∷ []))) h
+    (λ p q feasible. unbeaten_kept d t (effect d t (event.Post node front point leaf)) p q refl refl (points_with t.posts (posted_point d t.entries node front point leaf ∷ []))) h
 cover_step d budget cs t (event.Append post basis cut) dec running may pool posts h =
     cover_kept d t (effect d t (event.Append post basis cut)) (open_freed (slice_get t.posts post) (length t.cuts) t.nodes)
-        (λ p q feasible. unbeaten_kept d t (effect d t (event.Append post basis cut)) p q refl refl (points_changed (ended_by t.entries) t.posts post (λ x. refl))) h
+    (λ p q feasible. unbeaten_kept d t (effect d t (event.Append post basis cut)) p q refl refl (points_changed (ended_by t.entries) t.posts post (λ x. refl))) h
 cover_step d budget cs t (event.Again post basis place) dec running may pool posts h =
     cover_kept d t (effect d t (event.Again post basis place)) (open_freed (slice_get t.posts post) place t.nodes)
-        (λ p q feasible. unbeaten_kept d t (effect d t (event.Again post basis place)) p q refl refl (points_changed (ended_by t.entries) t.posts post (λ x. refl))) h
+    (λ p q feasible. unbeaten_kept d t (effect d t (event.Again post basis place)) p q refl refl (points_changed (ended_by t.entries) t.posts post (λ x. refl))) h
 cover_step d budget cs t (event.Fill post block y) dec running may pool posts h =
     cover_kept d t (effect d t (event.Fill post block y)) (open_same t.nodes)
-        (λ p q feasible. unbeaten_kept d t (effect d t (event.Fill post block y)) p q refl refl (points_changed (filled_by t.entries block y) t.posts post (λ x. refl))) h
+    (λ p q feasible. unbeaten_kept d t (effect d t (event.Fill post block y)) p q refl refl (points_changed (filled_by t.entries block y) t.posts post (λ x. refl))) h
 cover_step d budget cs t (event.Incumbent post) dec running may pool posts h =
     cover_kept d t (effect d t (event.Incumbent post)) (open_same t.nodes) (incumbent_unbeaten d t post may posts) h
 cover_step d budget cs t (event.Close number w) dec running may pool posts h =
     λ p q feasible better. close_cover d t number w dec running pool.valid posts may.closing h p q feasible
-        (unbeaten_kept d t (effect d t (event.Close number w)) p q refl refl (points_ended t.entries t.posts (live_of (slice_get t.nodes number))) better)
+    (unbeaten_kept d t (effect d t (event.Close number w)) p q refl refl (points_ended t.entries t.posts (live_of (slice_get t.nodes number))) better)
 cover_step d budget cs t (event.Stop reason) dec running may pool posts h = h
 
 -- ---- all histories

@@ -69,9 +69,10 @@ pub completed : (P : ℕ × BlockPart → Type 0) (n : ℕ) (fills : List (Optio
 completed P n [] h each = tt
 completed P n (None ∷ fills) h each = absurd (cc)
 completed P n (Some f ∷ fills) h each =
-    let first : n + 0 ≡ n = omega arith in
-    (subst (λ (k : ℕ). P (k, f.y)) first (each 0 f refl),
-        completed P (n + 1) fills h.1 (λ b fill is. subst (λ (k : ℕ). P (k, fill.y)) (next n b) (each (suc b) fill is)))
+    let first : n + 0 ≡ n = omega arith in (
+      subst (λ (k : ℕ). P (k, f.y)) first (each 0 f refl),
+      completed P (n + 1) fills h.1 (λ b fill is. subst (λ (k : ℕ). P (k, fill.y)) (next n b) (each (suc b) fill is)),
+    )
   where
     next : (n b : ℕ) → n + suc b ≡ n + 1 + b
     next n b = omega arith
@@ -155,19 +156,23 @@ finished_searches_are_true d budget root es t dec r none = record { infeasible =
       where
         differ : (i : ℕ) → None ≡ Some i → ⊥
         differ i e = absurd (cc)
+
     right : (post : Post) → IsBest t post → IsPostOf d (mode_of t) t.nodes t.cuts post
     right post best = posts_are_right d budget root es t r best.0 post best.2
+
     filled : (post : Post) → IsBest t post → IsFilled post
     filled post best =
         let b : (x : Post) × IsAt t.posts best.0 x × IsFilled x = best_is_filled d budget root es t r best.0 best.1 in
         subst IsFilled (at_one t.posts best.0 b.0 post b.1 best.2) b.2
+
     shape : (post : Post) → IsBest t post → HasPointShape d.model d.part (parts_of post)
     shape post best = post_shape d (mode_of t) t.nodes post t.cuts (right post best) (filled post best)
+
     optimal : mode_of t ≡ mode.Cost → (post : Post) → IsBest t post → (p : List ℤ) (q : ℤ) → IsPointOf d.model d.part (parts_of post) p q
         → IsOptimal d.model p q × IsSameNumber (objective d.model p q) (objective_of d.model (value_of d.model d.part post.point) post.point.den)
     optimal cost post best p q is =
         let h : IsPostOf d (mode_of t) t.nodes t.cuts post = right post best in
         least_is_optimal d.model post.point.den (value_of d.model d.part post.point) p q h.posted.shape.den
-            (parts_are_feasible d.model d.part (parts_of post) p q dec (post_feasible d root (mode_of t) t post (trees_are_whole d budget root es t r) r.root_is.is_root h (filled post best)) is)
-            (parts_cost_at_most d.model d.part (parts_of post) (value_of d.model d.part post.point) p q dec (post_worth d t post (subst (λ (w : Mode). IsPostOf d w t.nodes t.cuts post) cost h) (filled post best)) is)
-            (least_value d budget root es t dec r none post best)
+        (parts_are_feasible d.model d.part (parts_of post) p q dec (post_feasible d root (mode_of t) t post (trees_are_whole d budget root es t r) r.root_is.is_root h (filled post best)) is)
+        (parts_cost_at_most d.model d.part (parts_of post) (value_of d.model d.part post.point) p q dec (post_worth d t post (subst (λ (w : Mode). IsPostOf d w t.nodes t.cuts post) cost h) (filled post best)) is)
+        (least_value d budget root es t dec r none post best)

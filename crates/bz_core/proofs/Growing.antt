@@ -47,8 +47,8 @@ counts_after_is counts before (e ∷ es) h = subst (AreCounts (counts_after (cou
 end_counts : (d : Decomposition) (budget : ℕ) (root : Region) (es : List Entry) (t : State) (e : Entry) → IsReplay d budget root es t → IsStep d budget (λ worker. count_of worker es) t e → IsStep d budget (counts_after no_entries es) (replay d (opening root) es) e
 end_counts d budget root es t e r s =
     step_with d budget (λ worker. count_of worker es) (counts_after no_entries es) (replay d (opening root) es) e
-        (λ worker. sym (counts_after_is no_entries [] es (λ w. refl) worker))
-        (subst (λ u. IsStep d budget (λ worker. count_of worker es) u e) (sym r.state) s)
+    (λ worker. sym (counts_after_is no_entries [] es (λ w. refl) worker))
+    (subst (λ u. IsStep d budget (λ worker. count_of worker es) u e) (sym r.state) s)
 
 -- the history with one more entry that may follow
 pub step_more : (d : Decomposition) (budget : ℕ) (root : Region) (es : List Entry) (t : State) (e : Entry) → IsReplay d budget root es t → IsStep d budget (λ worker. count_of worker es) t e → IsReplay d budget root (es ++ e ∷ []) (effect d t e.event)
@@ -82,10 +82,10 @@ grow : (d : Decomposition) (budget : ℕ) (root : Region) (Holds : List Entry �
 grow d budget root Holds counts before t [] keeps p h = subst (λ es. Holds es t) (sym (append-nil before)) p.holds
 grow d budget root Holds counts before t (e ∷ es) keeps p h =
     subst (λ all. Holds all (replay d (effect d t e.event) es)) (append_assoc before (e ∷ []) es)
-        (grow d budget root Holds (counted counts e) (before ++ e ∷ []) (effect d t e.event) es keeps (prefix_more d budget root Holds counts before t e keeps h.0 p) h.1)
+    (grow d budget root Holds (counted counts e) (before ++ e ∷ []) (effect d t e.event) es keeps (prefix_more d budget root Holds counts before t e keeps h.0 p) h.1)
 
 -- what holds of a search that has just begun, and with any further entry, holds of every legal history
 pub histories_grow : (d : Decomposition) (budget : ℕ) (root : Region) (Holds : List Entry → State → Type 0) → Holds [] (opening root) → Keeps d budget root Holds → (es : List Entry) (t : State) → IsReplay d budget root es t → Holds es t
 histories_grow d budget root Holds begins keeps es t r =
     subst (Holds es) r.state (grow d budget root Holds no_entries [] (opening root) es keeps
-        (record { replayed = record { root_is = r.root_is; legal = tt; state = refl }; counts_are = λ worker. refl; holds = begins }) r.legal)
+    (record { replayed = record { root_is = r.root_is; legal = tt; state = refl }; counts_are = λ worker. refl; holds = begins }) r.legal)

@@ -1,16 +1,14 @@
 -- The leaves reach the best post's value after each event.
 use Rattle.std.proofs.Common.{◌≡◌, refl, sym, ◌∙◌, ap, subst, ℕ, zero, suc, ◌+◌, List, [], ◌∷◌, ◌++◌, length, inl, inr, arith, ℤ, pos, ◌*ℤ◌, ◌≤ℤ◌, ◌<ℤ◌}
 use Rattle.std.proofs.lemmas.Int.{ints}
-use Rattle.std.proofs.Math.IntN.{*ℤ_comm}
 use Rattle.std.specs.Prelude.{◌⊎◌, Option, Some, None, false, is_some, not}
 use Rattle.std.specs.List.{list_any, slice_get}
-use Rattle.bz_algebra.proofs.Ring.{*ℤ_assoc, cancel_le_right, mul_le_right, mul_right}
+use Rattle.bz_algebra.proofs.Ring.{cancel_le_right, mul_le_right, mul_right}
 use Rattle.bz_model.specs.declared.Master.{Master}
 use Rattle.bz_model.specs.Splits.{Decomposition}
 use Rattle.bz_cut.specs.declared.Mode.{Mode}
 use Rattle.bz_cut.specs.declared.Mode.TheVariants as mode
 use Rattle.bz_tree.specs.declared.Leaf.{Leaf}
-use Rattle.bz_event.specs.declared.events.Entry.{Entry}
 use Rattle.bz_event.specs.declared.events.Event.{Event}
 use Rattle.bz_event.specs.declared.events.Event.TheVariants as event
 use Rattle.bz_event.specs.declared.events.How.{How}
@@ -20,11 +18,10 @@ use Rattle.bz_core.specs.declared.state.Closing.{Closing}
 use Rattle.bz_core.specs.declared.state.Node.{Node}
 use Rattle.bz_core.specs.declared.state.Post.{Post}
 use Rattle.bz_core.specs.declared.state.Region.{Region}
-use Rattle.bz_core.specs.Histories.{IsReplay}
 use Rattle.bz_core.specs.Leaves.{IsClosedBy, LeavesAreRight, LeavesReach}
 use Rattle.bz_core.specs.Posts.{ArePosts}
 use Rattle.bz_core.specs.States.{State, changed, closed_by, effect, ended_by, filled_by, is_done, is_open, live_of, mode_of, opening, posted_by, posted_point, side, sides_opened}
-use Rattle.bz_core.specs.Steps.{IsAt, IsBelow, IsBest, IsBetter, IsClosing, IsIncumbentStep, MayFollow, ReachesBest}
+use Rattle.bz_core.specs.Steps.{IsAt, IsBelow, IsBetter, IsClosing, IsIncumbentStep, MayFollow, ReachesBest}
 use Rattle.bz_core.proofs.CoverSteps.{ArePointsKept, cost_while_running, points_changed, points_ended, points_same, points_with}
 use Rattle.bz_core.proofs.Growing.{histories_grow}
 use Rattle.bz_core.proofs.Lists.{at_changed, at_either}
@@ -36,8 +33,12 @@ reach_kept : (d : Decomposition) (t u : State) (leaf : Leaf) → u.best ≡ t.be
 reach_kept d t u leaf best posts (inl e) = inl e
 reach_kept d t u leaf best posts (inr (b, is, positive, reach)) =
     let k : (y : Post) × IsAt u.posts is.0 y × (y.point ≡ b.point) = posts is.0 b is.2 in
-    inr (k.0, (is.0, best ∙ is.1, k.1), positive,
-        subst (λ (point : Master). (value_of d.model d.part point *ℤ leaf.delta) ≤ℤ (leaf.bound *ℤ point.den)) (sym k.2) reach)
+    inr (
+      k.0,
+      (is.0, best ∙ is.1, k.1),
+      positive,
+      subst (λ (point : Master). (value_of d.model d.part point *ℤ leaf.delta) ≤ℤ (leaf.bound *ℤ point.den)) (sym k.2) reach,
+    )
 
 closed_before : (nodes later : List Node) (leaf : Leaf) → AreSteady nodes later → IsClosedBy later leaf → IsClosedBy nodes leaf
 closed_before nodes later leaf steady c =
@@ -66,9 +67,13 @@ incumbent_reached d t number may running posts h leaf c = by (h leaf c)
     by (inr (b, is, positive, reach)) =
         let cost : mode_of t ≡ mode.Cost = cost_while_running (is_some t.stop) (not (list_any is_open t.nodes)) t.ray t.best is.0 running is.1 in
         let better : IsBetter d t mode.Cost (value_of d.model d.part may.post.point) may.post.point.den = subst (λ (w : Mode). IsBetter d t w (value_of d.model d.part may.post.point) may.post.point.den) cost may.better in
-        inr (may.post, (number, refl, may.is_post), positive,
-            lower_reached (value_of d.model d.part b.point) b.point.den leaf.delta leaf.bound (value_of d.model d.part may.post.point) may.post.point.den
-                (posts is.0 b is.2).posted.shape.den positive (posts number may.post may.is_post).posted.shape.den (better b is) reach)
+        inr (
+          may.post,
+          (number, refl, may.is_post),
+          positive,
+          lower_reached (value_of d.model d.part b.point) b.point.den leaf.delta leaf.bound (value_of d.model d.part may.post.point) may.post.point.den
+              (posts is.0 b is.2).posted.shape.den positive (posts number may.post may.is_post).posted.shape.den (better b is) reach,
+        )
 
 -- ---- a node is closed
 -- sides that a closing opens are open
@@ -92,8 +97,10 @@ closed_reached d t number h may old leaf c = by (at_either closed more c.number 
   where
     closed : List Node
     closed = changed (closed_by h t.entries (length t.nodes)) t.nodes number
+
     more : List Node
     more = sides_opened d (length t.cuts) h (slice_get t.nodes number)
+
     here : ((x : Node) × (slice_get t.nodes c.number ≡ Some x) × ((c.node ≡ x) ⊎ ((c.number ≡ number) × (c.node ≡ closed_by h t.entries (length t.nodes) x)))) → ReachesBest d t leaf
     here (x, is, inl e) = old leaf (record { number = c.number; node = x; is_node = is; closing = c.closing; closed = ap (λ (u : Node). u.closing) (sym e) ∙ c.closed; front = c.front; by_leaf = c.by_leaf })
     here (x, is, inr e) =
@@ -104,6 +111,7 @@ closed_reached d t number h may old leaf c = by (at_either closed more c.number 
         same_how closing ends =
             let same : record { how = h; at = t.entries; kids = length t.nodes } ≡ closing = cc in
             ap (λ (c : Closing). c.how) same
+
     by : (slice_get closed c.number ≡ Some c.node) ⊎ ((j : ℕ) × (c.number ≡ length closed + j) × (slice_get more j ≡ Some c.node)) → ReachesBest d t leaf
     by (inl is) = here (at_changed (closed_by h t.entries (length t.nodes)) t.nodes number c.number c.node is)
     by (inr (j, place, is)) =

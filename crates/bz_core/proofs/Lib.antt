@@ -10,6 +10,7 @@ pub mod MeasureSteps
 pub mod PoolSteps
 pub mod PostSteps
 pub mod RaySteps
+pub mod SizeSteps
 pub mod SplitColumns
 pub mod Stamps
 pub mod TreeSteps

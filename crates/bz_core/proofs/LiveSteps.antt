@@ -6,7 +6,6 @@ use Rattle.std.specs.List.{slice_get}
 use Rattle.bz_model.specs.declared.Master.{Master}
 use Rattle.bz_model.specs.Splits.{Decomposition}
 use Rattle.bz_tree.specs.declared.Leaf.{Leaf}
-use Rattle.bz_event.specs.declared.events.Entry.{Entry}
 use Rattle.bz_event.specs.declared.events.Event.{Event}
 use Rattle.bz_event.specs.declared.events.Event.TheVariants as event
 use Rattle.bz_event.specs.declared.events.How.{How}
@@ -14,9 +13,8 @@ use Rattle.bz_event.specs.declared.events.How.TheVariants as how
 use Rattle.bz_core.specs.declared.state.Node.{Node}
 use Rattle.bz_core.specs.declared.state.Post.{Post}
 use Rattle.bz_core.specs.declared.state.Region.{Region}
-use Rattle.bz_core.specs.Histories.{IsReplay}
 use Rattle.bz_core.specs.Lives.{AreLives, HasLivePost, IsLivePostOf, LivesAreRight}
-use Rattle.bz_core.specs.States.{State, changed, changed_at, closed_by, effect, end_of, ended_by, filled_by, freed_by, freed_where_live, is_live, is_open, live_of, opening, posted_by, posted_point, side, sides_opened}
+use Rattle.bz_core.specs.States.{State, changed, changed_at, closed_by, effect, end_of, ended_by, filled_by, freed_by, freed_where_live, is_live, live_of, posted_by, posted_point, side, sides_opened}
 use Rattle.bz_core.specs.Steps.{IsAt, IsClosing, IsPostStep, MayFollow}
 use Rattle.bz_core.proofs.Growing.{histories_grow}
 use Rattle.bz_core.proofs.Lists.{at_changed, at_either, at_end, at_kept, at_more, at_one, before_changed, changed_here, changed_item, changed_there}
@@ -44,12 +42,14 @@ unlinked n p node nodes later posts ended is live ns ps h = record { of_node = o
   where
     own : IsLivePostOf posts p n
     own = h.of_node n p node is live
+
     of_node : (m i : ℕ) (z : Node) → IsAt later m z → z.live ≡ Some i → IsLivePostOf ended i m
     of_node m i z is_z live_z =
         let w : (m ≡ n → ⊥) × IsAt nodes m z = ns.was m i z is_z live_z in
         let q : IsLivePostOf posts i m = h.of_node m i z w.1 live_z in
         let other : i ≡ p → ⊥ = λ e. w.0 (sym q.of_node ∙ ap (λ (x : Post). x.node) (at_one posts p q.post own.post (subst (λ (k : ℕ). IsAt posts k q.post) e q.is_post) own.is_post) ∙ own.of_node) in
         record { post = q.post; is_post = ps.stays i q.post other q.is_post; of_node = q.of_node; live = q.live }
+
     of_post : (i : ℕ) (y : Post) → IsAt ended i y → is_live y ≡ true → HasLivePost later y.node i
     of_post i y is_y live_y =
         let w : (i ≡ p → ⊥) × IsAt posts i y = ps.was i y is_y live_y in
@@ -65,6 +65,7 @@ unlinked_alone n node nodes later posts is none ns h = record { of_node = of_nod
     of_node m i z is_z live_z =
         let w : (m ≡ n → ⊥) × IsAt nodes m z = ns.was m i z is_z live_z in
         h.of_node m i z w.1 live_z
+
     of_post : (i : ℕ) (y : Post) → IsAt posts i y → is_live y ≡ true → HasLivePost later y.node i
     of_post i y is_y live_y =
         let q : HasLivePost nodes y.node i = h.of_post i y is_y live_y in
@@ -86,6 +87,7 @@ nodes_but f nodes more n gone fresh = record {
         other e =
             let b : (x : Node) × (slice_get nodes n ≡ Some x) × (z ≡ f x) = before_changed f nodes n z (subst (λ (k : ℕ). slice_get (changed f nodes n) k ≡ Some z) e is) in
             none_some i (sym (gone b.0) ∙ ap (λ (x : Node). x.live) (sym b.2) ∙ live)
+
     by : (m i : ℕ) (z : Node) → z.live ≡ Some i → (slice_get (changed f nodes n) m ≡ Some z) ⊎ ((j : ℕ) × (m ≡ length (changed f nodes n) + j) × (slice_get more j ≡ Some z)) → (m ≡ n → ⊥) × IsAt nodes m z
     by m i z live (inl is) = here m i z live is
     by m i z live (inr (j, place, is)) = absurd (none_some i (sym (fresh j z is) ∙ live))
@@ -121,9 +123,11 @@ lives_filled f nodes posts p node live h = record { of_node = of_node; of_post =
       where
         q : IsLivePostOf posts i n
         q = h.of_node n i x is live_x
+
         by : ((y : Post) × (slice_get (changed f posts p) i ≡ Some y) × ((y ≡ q.post) ⊎ ((i ≡ p) × (y ≡ f q.post)))) → IsLivePostOf (changed f posts p) i n
         by (y, at, inl e) = record { post = y; is_post = at; of_node = ap (λ (z : Post). z.node) e ∙ q.of_node; live = ap is_live e ∙ q.live }
         by (y, at, inr e) = record { post = y; is_post = at; of_node = ap (λ (z : Post). z.node) e.1 ∙ node q.post ∙ q.of_node; live = ap is_live e.1 ∙ live q.post ∙ q.live }
+
     of_post : (i : ℕ) (y : Post) → IsAt (changed f posts p) i y → is_live y ≡ true → HasLivePost nodes y.node i
     of_post i y is live_y = by (at_changed f posts p i y is)
       where
@@ -143,6 +147,7 @@ lives_dead at nodes posts p post is dead h = record { of_node = of_node; of_post
       where
         false_true : false ≡ true → ⊥
         false_true e = absurd (cc)
+
     of_post : (i : ℕ) (y : Post) → IsAt (changed (ended_by at) posts p) i y → is_live y ≡ true → HasLivePost nodes y.node i
     of_post i y is_y live_y =
         let w : (i ≡ p → ⊥) × IsAt posts i y = (posts_but at posts p).was i y is_y live_y in
@@ -154,10 +159,13 @@ open_none d t number front point leaf may h = record { of_node = of_node; of_pos
   where
     k : ℕ
     k = length t.posts
+
     new : Post
     new = posted_point d t.entries number front point leaf
+
     nodes : List Node
     nodes = changed (posted_by k) t.nodes number
+
     of_node : (m i : ℕ) (z : Node) → IsAt nodes m z → z.live ≡ Some i → IsLivePostOf (t.posts ++ new ∷ []) i m
     of_node m i z is live = elim (cases_eq m number) [ inl e ↦ here e | inr other ↦ there other ]
       where
@@ -166,10 +174,12 @@ open_none d t number front point leaf may h = record { of_node = of_node; of_pos
             let b : (x : Node) × (slice_get t.nodes number ≡ Some x) × (z ≡ posted_by k x) = before_changed (posted_by k) t.nodes number z (subst (λ (n : ℕ). slice_get nodes n ≡ Some z) e is) in
             let own : k ≡ i = some_same k i (ap (λ (x : Node). x.live) (sym b.2) ∙ live) in
             subst (λ (j : ℕ). IsLivePostOf (t.posts ++ new ∷ []) j m) own (record { post = new; is_post = at_end t.posts new; of_node = sym e; live = refl })
+
         there : (m ≡ number → ⊥) → IsLivePostOf (t.posts ++ new ∷ []) i m
         there other =
             let q : IsLivePostOf t.posts i m = h.of_node m i z (sym (changed_there (posted_by k) t.nodes number m other) ∙ is) live in
             record { post = q.post; is_post = at_kept t.posts (new ∷ []) i q.post q.is_post; of_node = q.of_node; live = q.live }
+
     of_post : (i : ℕ) (y : Post) → IsAt (t.posts ++ new ∷ []) i y → is_live y ≡ true → HasLivePost nodes y.node i
     of_post i y is live = by (at_more t.posts new i y is)
       where
@@ -190,8 +200,8 @@ cut_ends number at p nodes posts post is h = subst (λ (o : Option Post). AreLiv
     by true live =
         let q : HasLivePost nodes post.node p = h.of_post p post is live in
         subst (λ (ns : List Node). AreLives ns (changed (ended_by at) posts p)) (append-nil (changed (freed_by number) nodes post.node))
-            (unlinked post.node p q.node nodes (changed (freed_by number) nodes post.node ++ []) posts (changed (ended_by at) posts p) q.is_node q.live
-                (nodes_but (freed_by number) nodes [] post.node (λ x. refl) (λ j z none. absurd (cc))) (posts_but at posts p) h)
+        (unlinked post.node p q.node nodes (changed (freed_by number) nodes post.node ++ []) posts (changed (ended_by at) posts p) q.is_node q.live
+        (nodes_but (freed_by number) nodes [] post.node (λ x. refl) (λ j z none. absurd (cc))) (posts_but at posts p) h)
     by false dead = lives_dead at nodes posts p post is dead h
 
 -- ---- a node is closed
@@ -213,10 +223,13 @@ close_lives d t number h may lives = subst (λ (o : Option Node). AreLives later
   where
     node : (x : Node) × IsAt t.nodes number x
     node = closing_node d t number h may
+
     later : List Node
     later = changed (closed_by h t.entries (length t.nodes)) t.nodes number ++ sides_opened d (length t.cuts) h (slice_get t.nodes number)
+
     but : AreNodesBut number t.nodes later
     but = nodes_but (closed_by h t.entries (length t.nodes)) t.nodes (sides_opened d (length t.cuts) h (slice_get t.nodes number)) number (λ x. refl) (fresh_unposted d (length t.cuts) h (slice_get t.nodes number))
+
     by : (o : Option ℕ) → node.0.live ≡ o → AreLives later (changed_at (ended_by t.entries) t.posts node.0.live)
     by None e = subst (λ (o : Option ℕ). AreLives later (changed_at (ended_by t.entries) t.posts o)) (sym e) (unlinked_alone number node.0 t.nodes later t.posts node.1 e but lives)
     by (Some p) e = subst (λ (o : Option ℕ). AreLives later (changed_at (ended_by t.entries) t.posts o)) (sym e)

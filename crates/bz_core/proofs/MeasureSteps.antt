@@ -1,7 +1,7 @@
 -- How many nodes may still come, after each event.
-use Rattle.std.proofs.Common.{◌≡◌, refl, sym, ◌∙◌, ap, subst, ℕ, zero, suc, ◌+◌, ◌-◌, ◌*◌, ◌<◌, ◌≤◌, List, [], ◌∷◌, ◌++◌, length, inl, inr, arith, ℤ, pos, negsuc, ◌+ℤ◌, ◌-ℤ◌, ◌≤ℤ◌, ◌<ℤ◌}
+use Rattle.std.proofs.Common.{◌≡◌, refl, sym, ◌∙◌, ap, subst, ℕ, zero, suc, ◌+◌, ◌-◌, ◌*◌, ◌<◌, ◌≤◌, List, [], ◌∷◌, ◌++◌, length, arith, ℤ, pos, negsuc, ◌+ℤ◌, ◌-ℤ◌, ◌≤ℤ◌, ◌<ℤ◌}
 use Rattle.std.proofs.lemmas.Int.{ints}
-use Rattle.std.specs.Prelude.{◌⊎◌, Option, Some, None, Bool, true, false, cond, is_none, set}
+use Rattle.std.specs.Prelude.{Option, Some, None, Bool, true, false, cond, set}
 use Rattle.std.specs.List.{slice_get}
 use Rattle.std.proofs.Math.Nat.{add-mul, mul-add, one-le-mul}
 use Rattle.std.proofs.lemmas.Option.{slice_get_within}
@@ -11,14 +11,13 @@ use Rattle.bz_model.specs.Splits.{Decomposition}
 use Rattle.bz_tree.specs.declared.Leaf.{Leaf}
 use Rattle.bz_tree.specs.Integers.{integer_at}
 use Rattle.bz_tree.specs.Trees.{IsSplitOf}
-use Rattle.bz_event.specs.declared.events.Entry.{Entry}
 use Rattle.bz_event.specs.declared.events.Event.{Event}
 use Rattle.bz_event.specs.declared.events.Event.TheVariants as event
 use Rattle.bz_event.specs.declared.events.How.{How}
 use Rattle.bz_event.specs.declared.events.How.TheVariants as how
 use Rattle.bz_core.specs.declared.state.Post.{Post}
 use Rattle.bz_core.specs.declared.state.Region.{Region}
-use Rattle.bz_core.specs.Histories.{IsReplay, IsRootRegion}
+use Rattle.bz_core.specs.Histories.{IsRootRegion}
 use Rattle.bz_core.specs.Measures.{NodesAreFew, all_nodes_below, choices, count_over, nodes_below, points_in, points_of}
 use Rattle.bz_core.specs.declared.state.Node.{Node}
 use Rattle.bz_core.specs.States.{State, above, below, changed, closed_by, effect, freed_by, freed_where_live, is_live, is_open, posted_by, side, sides_opened}
@@ -120,14 +119,19 @@ closed_split d root t number front basis position value may tree is_root =
   where
     k : ℕ
     k = integer_at d.model d.part position
+
     w : Node
     w = may.waiting
+
     h : How
     h = how.Split front basis position value
+
     closed : List Node
     closed = changed (closed_by h t.entries (length t.nodes)) t.nodes number
+
     left : Node
     left = side (length t.cuts) (below k value w.region)
+
     right : Node
     right = side (length t.cuts) (above k value w.region)
 
@@ -147,7 +151,7 @@ closed_few : (d : Decomposition) (root : Region) (t : State) (number : ℕ) (h :
     → all_nodes_below (changed (closed_by h t.entries (length t.nodes)) t.nodes number ++ sides_opened d (length t.cuts) h (slice_get t.nodes number)) ≤ all_nodes_below t.nodes
 closed_few d root t number (how.Split front basis position value) may tree is_root =
     subst (λ (o : Option Node). all_nodes_below (changed (closed_by (how.Split front basis position value) t.entries (length t.nodes)) t.nodes number ++ sides_opened d (length t.cuts) (how.Split front basis position value) o) ≤ all_nodes_below t.nodes) (sym may.waits.is_node)
-        (at_most (closed_split d root t number front basis position value may tree is_root))
+    (at_most (closed_split d root t number front basis position value may tree is_root))
   where
     at_most : {a b : ℕ} → a ≡ b → a ≤ b
     at_most e = omega (arith, e)

@@ -111,6 +111,7 @@ posts_kept d t u at way nodes cuts posts h i y is = by (posts i y is)
   where
     old : (x : Post) → IsAt t.posts i x → IsPostOf d (mode_of u) u.nodes u.cuts x
     old x is_x = subst (λ (m : Mode). IsPostOf d m u.nodes u.cuts x) (sym way) (post_grown d (mode_of t) t.nodes u.nodes t.cuts u.cuts x nodes cuts (h i x is_x))
+
     by : ((x : Post) × IsAt t.posts i x × ((y ≡ x) ⊎ (y ≡ ended_by at x))) → IsPostOf d (mode_of u) u.nodes u.cuts y
     by (x, is_x, inl e) = subst (IsPostOf d (mode_of u) u.nodes u.cuts) (sym e) (old x is_x)
     by (x, is_x, inr e) = subst (IsPostOf d (mode_of u) u.nodes u.cuts) (sym e) (post_ended d (mode_of u) u.nodes u.cuts at x (old x is_x))
@@ -181,13 +182,14 @@ posts_filled d t number block y may h i z is = by (at_changed (filled_by t.entri
         let there : slice_get t.posts number ≡ Some x = subst (λ (k : ℕ). slice_get t.posts k ≡ Some x) e.0 is_x in
         let own : may.post ≡ x = at_one t.posts number may.post x may.is_post there in
         subst (IsPostOf d (mode_of t) t.nodes t.cuts) (sym e.1)
-            (post_filled d (mode_of t) t.nodes t.cuts t.entries block y x may.first (subst (λ (p : Post). IsCompletion d (mode_of t) p.point block y) own may.completes) (h i x is_x))
+        (post_filled d (mode_of t) t.nodes t.cuts t.entries block y x may.first (subst (λ (p : Post). IsCompletion d (mode_of t) p.point block y) own may.completes) (h i x is_x))
 
 posts_posted : (d : Decomposition) (t : State) (number front : ℕ) (point : Master) (leaf : Option Leaf) → IsPostStep d t number front point leaf → ArePosts d t → ArePosts d (effect d t (event.Post number front point leaf))
 posts_posted d t number front point leaf may h i z is = by (at_more t.posts (posted_point d t.entries number front point leaf) i z is)
   where
     later : List Node
     later = changed (posted_by (length t.posts)) t.nodes number
+
     by : (slice_get t.posts i ≡ Some z) ⊎ ((posted_point d t.entries number front point leaf ≡ z) × (i ≡ length t.posts)) → IsPostOf d (mode_of t) later t.cuts z
     by (inl g) = post_grown d (mode_of t) t.nodes later t.cuts t.cuts z (kept_changed (posted_by (length t.posts)) t.nodes number (λ x. refl)) (longer_same t.cuts) (h i z g)
     by (inr g) = subst (IsPostOf d (mode_of t) later t.cuts) g.0 (new_post d t number front point leaf may)

@@ -42,6 +42,7 @@ ray_step d budget t (event.Ray block direction) may h = new
     own =
         let next : block ≡ suc _ = may.next.next in
         record { first = omega arith; last = may.next.last; is_ray = may.ray }
+
     new : (ray : FallingRay) → Some (record { block = block; d = direction; at = t.entries }) ≡ Some ray → IsRayOf d ray
     new ray is =
         let same : record { block = block; d = direction; at = t.entries } ≡ ray = cc in
@@ -71,12 +72,12 @@ rays_are_true d budget root es t dec r way post best =
     let filled : IsFilled post = subst IsFilled (at_one t.posts best.0 b.0 post b.1 best.2) b.2 in
     let parts : AreFeasible d.model d.part (parts_of post) = post_feasible d root (mode_of t) t post (trees_are_whole d budget root es t r) r.root_is.is_root (posts_are_right d budget root es t r best.0 post best.2) filled in
     ray_unbounded d.model d.part (parts_of post) (placed d.part ray.0.block ray.0.d) dec
-        (record {
-          shape = parts.shape.point;
-          master = parts.master;
-          root = parts.root;
-          is_root = parts.is_root;
-          integers = parts.integers;
-          blocks = parts.rows;
-          falls = floor_ray_falls d.model d.part ray.0.block ray.0.d dec own.first own.last own.is_ray;
-        })
+    (record {
+      shape = parts.shape.point;
+      master = parts.master;
+      root = parts.root;
+      is_root = parts.is_root;
+      integers = parts.integers;
+      blocks = parts.rows;
+      falls = floor_ray_falls d.model d.part ray.0.block ray.0.d dec own.first own.last own.is_ray;
+    })

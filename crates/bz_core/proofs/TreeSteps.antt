@@ -128,12 +128,14 @@ tree_kept d root cuts more nodes later kept steady closed longer h = record {
     each n z is =
         let s : (x : Node) × IsAt nodes n x × (z.region ≡ x.region) × (z.closing ≡ x.closing) = steady n z is in
         subst (λ (c : Option Closing). IsEndedRight d more later n z.region c) (sym s.3)
-            (subst (λ (r : Region). IsEndedRight d more later n r s.0.closing) (sym s.2)
-                (end_grown d cuts more nodes later n s.0.region s.0.closing kept longer (h.each n s.0 s.1)))
+        (subst (λ (r : Region). IsEndedRight d more later n r s.0.closing) (sym s.2)
+        (end_grown d cuts more nodes later n s.0.region s.0.closing kept longer (h.each n s.0 s.1)))
+
     inside : (n : ℕ) (z : Node) → IsAt later n z → IsInside root z.region
     inside n z is =
         let s : (x : Node) × IsAt nodes n x × (z.region ≡ x.region) × (z.closing ≡ x.closing) = steady n z is in
         subst (IsInside root) (sym s.2) (h.inside n s.0 s.1)
+
     parents : (n : ℕ) (z : Node) → IsAt later (suc n) z → (m : ℕ) × IsParent later m (suc n)
     parents n z is =
         let s : (x : Node) × IsAt nodes (suc n) x × (z.region ≡ x.region) × (z.closing ≡ x.closing) = steady (suc n) z is in
@@ -211,12 +213,16 @@ tree_closed d root cuts nodes number at h node more is_node open_still opened t 
   where
     closed : List Node
     closed = changed (closed_by h at (length nodes)) nodes number
+
     later : List Node
     later = closed ++ more
+
     kept : AreKept nodes later
     kept = kept_with nodes closed more (kept_changed (closed_by h at (length nodes)) nodes number (λ x. refl))
+
     same_count : length closed ≡ length nodes
     same_count = length-changed (closed_by h at (length nodes)) nodes number
+
     kept_closed : AreKeptClosed nodes later
     kept_closed n x c is closing = by (changed_item (closed_by h at (length nodes)) nodes number n x is)
       where
@@ -228,9 +234,11 @@ tree_closed d root cuts nodes number at h node more is_node open_still opened t 
             let none : x.closing ≡ None = subst (λ (u : Node). u.closing ≡ None) own open_still in
             let both : None ≡ Some c = sym none ∙ closing in
             absurd (cc)
+
     -- the nodes that were there
     old : (n : ℕ) (z : Node) → slice_get closed n ≡ Some z → (x : Node) × IsAt nodes n x × ((z ≡ x) ⊎ ((n ≡ number) × (z ≡ closed_by h at (length nodes) x)))
     old n z is = at_changed (closed_by h at (length nodes)) nodes number n z is
+
     each : (n : ℕ) (z : Node) → (slice_get closed n ≡ Some z) ⊎ ((j : ℕ) × (n ≡ length closed + j) × (slice_get more j ≡ Some z)) → IsEndedRight d cuts later n z.region z.closing
     each n z (inl is) = by (old n z is)
       where
@@ -244,6 +252,7 @@ tree_closed d root cuts nodes number at h node more is_node open_still opened t 
     each n z (inr (j, place, is)) =
         let f : (z.closing ≡ None) × IsInside root z.region × IsParent later number (length nodes + j) = opened.fresh j z is in
         subst (λ (c : Option Closing). IsEndedRight d cuts later n z.region c) (sym f.0) tt
+
     inside : (n : ℕ) (z : Node) → (slice_get closed n ≡ Some z) ⊎ ((j : ℕ) × (n ≡ length closed + j) × (slice_get more j ≡ Some z)) → IsInside root z.region
     inside n z (inl is) = by (old n z is)
       where
@@ -253,6 +262,7 @@ tree_closed d root cuts nodes number at h node more is_node open_still opened t 
     inside n z (inr (j, place, is)) =
         let f : (z.closing ≡ None) × IsInside root z.region × IsParent later number (length nodes + j) = opened.fresh j z is in
         f.1
+
     parents : (n : ℕ) (z : Node) → (slice_get closed (suc n) ≡ Some z) ⊎ ((j : ℕ) × (suc n ≡ length closed + j) × (slice_get more j ≡ Some z)) → (m : ℕ) × IsParent later m (suc n)
     parents n z (inl is) =
         let o : (x : Node) × IsAt nodes (suc n) x × ((z ≡ x) ⊎ ((suc n ≡ number) × (z ≡ closed_by h at (length nodes) x))) = old (suc n) z is in
@@ -293,26 +303,34 @@ parent_of nodes more number at front basis position value node n is side = recor
 
 split_opened : (d : Decomposition) (root : Region) (t : State) (number front : ℕ) (basis : List ℕ) (position : ℕ) (value : ℤ) (may : IsSplitStep d t number front basis position value) → IsTree d root t.cuts t.nodes
     → IsOpened d root t.cuts t.nodes
-        (changed (closed_by (how.Split front basis position value) t.entries (length t.nodes)) t.nodes number ++ sides_opened d (length t.cuts) (how.Split front basis position value) (Some may.waiting))
-        number t.entries (how.Split front basis position value) (sides_opened d (length t.cuts) (how.Split front basis position value) (Some may.waiting))
+    (changed (closed_by (how.Split front basis position value) t.entries (length t.nodes)) t.nodes number ++ sides_opened d (length t.cuts) (how.Split front basis position value) (Some may.waiting))
+    number t.entries (how.Split front basis position value) (sides_opened d (length t.cuts) (how.Split front basis position value) (Some may.waiting))
 split_opened d root t number front basis position value may tree = record { ended = ended; fresh = fresh }
   where
     k : ℕ
     k = integer_at d.model d.part position
+
     w : Node
     w = may.waiting
+
     left : Node
     left = side (length t.cuts) (below k value w.region)
+
     right : Node
     right = side (length t.cuts) (above k value w.region)
+
     h : How
     h = how.Split front basis position value
+
     closed : List Node
     closed = changed (closed_by h t.entries (length t.nodes)) t.nodes number
+
     later : List Node
     later = closed ++ left ∷ right ∷ []
+
     count : length closed ≡ length t.nodes
     count = length-changed (closed_by h t.entries (length t.nodes)) t.nodes number
+
     ended : (region : Region) → HasRegion t.nodes number region → IsEnd d t.cuts later number region (length t.nodes) h
     ended region here =
         let same : w.region ≡ region = own_region t.nodes number w region may.waits.is_node here in
@@ -322,17 +340,23 @@ split_opened d root t number front basis position value may tree = record { ende
           left = region_after closed (left ∷ right ∷ []) 0 (length t.nodes) left (below k value region) refl (omega (arith, count)) (ap (below k value) same);
           right = region_after closed (left ∷ right ∷ []) 1 (suc (length t.nodes)) right (above k value region) refl (omega (arith, count)) (ap (above k value) same);
         }
+
     inside : IsInside root w.region
     inside = tree.inside number w may.waits.is_node
+
     fresh : (j : ℕ) (z : Node) → slice_get (left ∷ right ∷ []) j ≡ Some z → (z.closing ≡ None) × IsInside root z.region × IsParent later number (length t.nodes + j)
     fresh zero z is =
-        let same : left ≡ z = cc in
-        (subst (λ (u : Node). u.closing ≡ None) same refl, subst (λ (u : Node). IsInside root u.region) same (inside_below root w.region k value may.below inside),
-            parent_of t.nodes (left ∷ right ∷ []) number t.entries front basis position value w (length t.nodes + 0) may.waits.is_node (inl (omega arith)))
+        let same : left ≡ z = cc in (
+          subst (λ (u : Node). u.closing ≡ None) same refl,
+          subst (λ (u : Node). IsInside root u.region) same (inside_below root w.region k value may.below inside),
+          parent_of t.nodes (left ∷ right ∷ []) number t.entries front basis position value w (length t.nodes + 0) may.waits.is_node (inl (omega arith)),
+        )
     fresh (suc zero) z is =
-        let same : right ≡ z = cc in
-        (subst (λ (u : Node). u.closing ≡ None) same refl, subst (λ (u : Node). IsInside root u.region) same (inside_above root w.region k value may.at_least inside),
-            parent_of t.nodes (left ∷ right ∷ []) number t.entries front basis position value w (length t.nodes + 1) may.waits.is_node (inr (omega arith)))
+        let same : right ≡ z = cc in (
+          subst (λ (u : Node). u.closing ≡ None) same refl,
+          subst (λ (u : Node). IsInside root u.region) same (inside_above root w.region k value may.at_least inside),
+          parent_of t.nodes (left ∷ right ∷ []) number t.entries front basis position value w (length t.nodes + 1) may.waits.is_node (inr (omega arith)),
+        )
     fresh (suc (suc j)) z is = absurd (cc)
 
 -- ---- a leaf
@@ -355,8 +379,8 @@ close_tree : (d : Decomposition) (root : Region) (t : State) (number : ℕ) (h :
 close_tree d root t number (how.Split front basis position value) may tree =
     let h : How = how.Split front basis position value in
     subst (λ (o : Option Node). IsTree d root t.cuts (changed (closed_by h t.entries (length t.nodes)) t.nodes number ++ sides_opened d (length t.cuts) h o)) (sym may.waits.is_node)
-        (tree_closed d root t.cuts t.nodes number t.entries h may.waiting (sides_opened d (length t.cuts) h (Some may.waiting)) may.waits.is_node (open_end may.waiting.closing may.waits.stands_open)
-            (split_opened d root t number front basis position value may tree) tree)
+    (tree_closed d root t.cuts t.nodes number t.entries h may.waiting (sides_opened d (length t.cuts) h (Some may.waiting)) may.waits.is_node (open_end may.waiting.closing may.waits.stands_open)
+    (split_opened d root t number front basis position value may tree) tree)
 close_tree d root t number (how.Leaf front leaf) may tree =
     tree_closed d root t.cuts t.nodes number t.entries (how.Leaf front leaf) may.node [] may.is_node (open_end may.node.closing may.stands_open) (leaf_opened d root t number front leaf may) tree
 
@@ -386,6 +410,7 @@ begins d root = record { first = record { node = side 0 root; is_node = refl; re
         let same : side 0 root ≡ z = cc in
         subst (λ (u : Node). IsEndedRight d [] (side 0 root ∷ []) 0 u.region u.closing) same tt
     each (suc n) z is = absurd (cc)
+
     inside : (n : ℕ) (z : Node) → IsAt (side 0 root ∷ []) n z → IsInside root z.region
     inside zero z is =
         let same : side 0 root ≡ z = cc in

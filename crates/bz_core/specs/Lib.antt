@@ -7,6 +7,7 @@ pub mod Lives
 pub mod Measures
 pub mod Pools
 pub mod Posts
+pub mod Sizes
 pub mod States
 pub mod Steps
 pub mod Trees

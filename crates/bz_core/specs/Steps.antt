@@ -204,7 +204,7 @@ abbrev pub ReachesBest : Decomposition → State → Leaf → Type 0
 ReachesBest d t leaf =
     (leaf.delta ≡ pos 0)
     ⊎ ((best : Post) × IsBest t best × ((pos 0) <ℤ leaf.delta)
-      × ((value_of d.model d.part best.point *ℤ leaf.delta) ≤ℤ (leaf.bound *ℤ best.point.den)))
+    × ((value_of d.model d.part best.point *ℤ leaf.delta) ≤ℤ (leaf.bound *ℤ best.point.den)))
 
 pub record IsLeafStep (d : Decomposition) (t : State) (number front : ℕ) (leaf : Leaf) : Type 0 where
   pub node : Node

@@ -8,6 +8,7 @@ ghost use Rattle.bz_core.specs.Lives.{LivesAreRight};
 ghost use Rattle.bz_core.specs.Measures.{NodesAreFew};
 ghost use Rattle.bz_core.specs.Pools.{PoolsAreRight};
 ghost use Rattle.bz_core.specs.Posts.{PostsAreRight};
+ghost use Rattle.bz_core.specs.Sizes.{SizesAreRight};
 ghost use Rattle.bz_core.specs.Trees.{TreesAreWhole};
 
 /// The counts of each worker's stamps are 0, 1, 2 and on, each once and in order.
@@ -47,6 +48,11 @@ pub fn lives_are_right()
 /// The nodes that are there, with those that may still come, are at most twice the whole points of the root's box, less one.
 pub fn nodes_are_few()
     ensures { NodesAreFew }
+{}
+
+/// The units are those of the closed nodes and of the appended cuts, and never more than the budget.
+pub fn sizes_are_right()
+    ensures { SizesAreRight }
 {}
 
 /// Nothing better is lost: each feasible point that is better than the best post so far, or each where there is none, lies in
