@@ -154,24 +154,24 @@ not_bounded cost q value den delta bound hdelta hq hden reach bounds below =
     absurd (omega (arith, ints, a, b, c, e, f, g))
 
 -- ---- posts that keep their points
-abbrev ArePointsKept : List Post → List Post → Type 0
+abbrev pub ArePointsKept : List Post → List Post → Type 0
 ArePointsKept posts later = (i : ℕ) (x : Post) → IsAt posts i x → (y : Post) × IsAt later i y × (y.point ≡ x.point)
 
-points_same : (posts : List Post) → ArePointsKept posts posts
+pub points_same : (posts : List Post) → ArePointsKept posts posts
 points_same posts i x h = (x, h, refl)
 
-points_changed : (f : Post → Post) (posts : List Post) (n : ℕ) → ((x : Post) → (f x).point ≡ x.point) → ArePointsKept posts (changed f posts n)
+pub points_changed : (f : Post → Post) (posts : List Post) (n : ℕ) → ((x : Post) → (f x).point ≡ x.point) → ArePointsKept posts (changed f posts n)
 points_changed f posts n same i x h = by (changed_item f posts n i x h)
   where
     by : ((y : Post) × (slice_get (changed f posts n) i ≡ Some y) × ((y ≡ x) ⊎ ((i ≡ n) × (y ≡ f x)))) → (y : Post) × IsAt (changed f posts n) i y × (y.point ≡ x.point)
     by (y, at, inl e) = (y, at, ap (λ (u : Post). u.point) e)
     by (y, at, inr e) = (y, at, ap (λ (u : Post). u.point) e.1 ∙ same x)
 
-points_ended : (at : ℕ) (posts : List Post) (o : Option ℕ) → ArePointsKept posts (changed_at (ended_by at) posts o)
+pub points_ended : (at : ℕ) (posts : List Post) (o : Option ℕ) → ArePointsKept posts (changed_at (ended_by at) posts o)
 points_ended at posts None = points_same posts
 points_ended at posts (Some i) = points_changed (ended_by at) posts i (λ x. refl)
 
-points_with : (posts more : List Post) → ArePointsKept posts (posts ++ more)
+pub points_with : (posts more : List Post) → ArePointsKept posts (posts ++ more)
 points_with posts more i x h = (x, at_kept posts more i x h, refl)
 
 -- who is unbeaten stays so where the mode and the best post stay
@@ -188,7 +188,7 @@ all_front P (suc n) [] h = tt
 all_front P (suc n) (x ∷ xs) h = (h.0, all_front P n xs h.1)
 
 -- with a best post a search that is running is in mode Cost
-cost_while_running : (stopped closed : Bool) (ray : Option FallingRay) (best : Option ℕ) (i : ℕ) → (stopped || closed || (is_some ray && is_some best)) ≡ false → best ≡ Some i → mode_for ray ≡ mode.Cost
+pub cost_while_running : (stopped closed : Bool) (ray : Option FallingRay) (best : Option ℕ) (i : ℕ) → (stopped || closed || (is_some ray && is_some best)) ≡ false → best ≡ Some i → mode_for ray ≡ mode.Cost
 cost_while_running stopped closed None best i h is = refl
 cost_while_running true closed (Some ray) best i h is = absurd (cc)
 cost_while_running false true (Some ray) best i h is = absurd (cc)

@@ -49,7 +49,7 @@ rest_false : (a b : Bool) → (a || b) ≡ false → b ≡ false
 rest_false true b h = absurd (cc)
 rest_false false b h = h
 
-none_open : (nodes : List Node) (n : ℕ) (x : Node) → list_any is_open nodes ≡ false → slice_get nodes n ≡ Some x → is_open x ≡ true → ⊥
+pub none_open : (nodes : List Node) (n : ℕ) (x : Node) → list_any is_open nodes ≡ false → slice_get nodes n ≡ Some x → is_open x ≡ true → ⊥
 none_open [] n x none is stands = absurd (cc)
 none_open (y ∷ ys) zero x none is stands =
     let same : y ≡ x = cc in
@@ -64,7 +64,7 @@ length-completions (None ∷ fills) h = absurd (cc)
 length-completions (Some f ∷ fills) h = ap suc (length-completions fills h.1)
 
 -- what each completion has, all have
-completed : (P : ℕ × BlockPart → Type 0) (n : ℕ) (fills : List (Option Filled)) → AllByRecursion (λ f. is_some f ≡ true) fills
+pub completed : (P : ℕ × BlockPart → Type 0) (n : ℕ) (fills : List (Option Filled)) → AllByRecursion (λ f. is_some f ≡ true) fills
     → ((b : ℕ) (fill : Filled) → slice_get fills b ≡ Some (Some fill) → P (n + b, fill.y)) → AllByRecursion P (enumerate_from n (completions fills))
 completed P n [] h each = tt
 completed P n (None ∷ fills) h each = absurd (cc)
@@ -95,14 +95,18 @@ post_shape d way nodes post cuts h filled = record {
     one_more : (b : ℕ) → suc b ≡ 1 + b
     one_more b = omega arith
 
+-- the integer columns of a post's point lie in the root's box
+pub post_integers : (d : Decomposition) (root : Region) (way : Mode) (t : State) (post : Post) → IsTree d root t.cuts t.nodes → IsPostOf d way t.nodes t.cuts post → AllByRecursion (IntegerHolds d.part (box_of root) post.point) (enumerate_from 0 (integers_of d.model))
+post_integers d root way t post tree h = all_then (IntegerHolds d.part (box_of h.node.region) post.point) (IntegerHolds d.part (box_of root) post.point) (enumerate_from 0 (integers_of d.model)) h.posted.integers
+    (λ e i. integer_wider d.part root h.node.region post.point e h.posted.shape.den (tree.inside post.node h.node h.is_node) i)
+
 pub post_feasible : (d : Decomposition) (root : Region) (way : Mode) (t : State) (post : Post) → IsTree d root t.cuts t.nodes → Rattle.bz_tree.specs.Boxes.IsRootBox d.model (box_of root) → IsPostOf d way t.nodes t.cuts post → IsFilled post → AreFeasible d.model d.part (parts_of post)
 post_feasible d root way t post tree is_root h filled = record {
   shape = record { point = post_shape d way t.nodes post t.cuts h filled; eta = h.posted.shape.eta };
   master = h.posted.rows;
   root = box_of root;
   is_root = is_root;
-  integers = all_then (IntegerHolds d.part (box_of h.node.region) post.point) (IntegerHolds d.part (box_of root) post.point) (enumerate_from 0 (integers_of d.model)) h.posted.integers
-      (λ e i. integer_wider d.part root h.node.region post.point e h.posted.shape.den (tree.inside post.node h.node h.is_node) i);
+  integers = post_integers d root way t post tree h;
   rows = completed (λ e. AllByRecursion (HoldsInBlock post.point e.1) (inequalities_of d.model d.part e.0)) 1 post.fills filled
       (λ b fill is. subst (λ (k : ℕ). AllByRecursion (HoldsInBlock post.point fill.y) (inequalities_of d.model d.part k)) (one_more b) (h.fills b fill is).rows);
 }

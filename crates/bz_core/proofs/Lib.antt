@@ -1,11 +1,16 @@
 pub mod BestSteps
+pub mod CertificateTrees
 pub mod CoverSteps
 pub mod FinishedSearches
 pub mod Growing
+pub mod LeafSteps
 pub mod Lists
+pub mod LiveSteps
+pub mod MeasureSteps
 pub mod PoolSteps
 pub mod PostSteps
 pub mod RaySteps
+pub mod SizeSteps
 pub mod SplitColumns
 pub mod Stamps
 pub mod TreeSteps

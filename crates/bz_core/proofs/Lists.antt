@@ -109,3 +109,20 @@ at_after (x ∷ xs) ys j e h =
     let rest : slice_get (xs ++ ys) (length xs + j) ≡ Some e = at_after xs ys j e h in
     let place : suc (length xs) + j ≡ suc (length xs + j) = omega arith in
     subst (λ (k : ℕ). slice_get (x ∷ (xs ++ ys)) k ≡ Some e) (sym place) rest
+
+-- ---- other items
+-- at another place an item stays as it is
+pub changed_there : {X : Type 0} (f : X → X) (xs : List X) (i k : ℕ) → (k ≡ i → ⊥) → slice_get (changed f xs i) k ≡ slice_get xs k
+changed_there f [] i k other = refl
+changed_there f (x ∷ xs) zero zero other = absurd (other refl)
+changed_there f (x ∷ xs) zero (suc k) other = refl
+changed_there f (x ∷ xs) (suc i) zero other = refl
+changed_there f (x ∷ xs) (suc i) (suc k) other = changed_there f xs i k (λ e. other (ap suc e))
+
+-- what stands at the place was there before
+pub before_changed : {X : Type 0} (f : X → X) (xs : List X) (i : ℕ) (y : X) → slice_get (changed f xs i) i ≡ Some y → (x : X) × (slice_get xs i ≡ Some x) × (y ≡ f x)
+before_changed f [] i y h = absurd (cc)
+before_changed f (x ∷ xs) zero y h =
+    let same : f x ≡ y = cc in
+    (x, refl, sym same)
+before_changed f (x ∷ xs) (suc i) y h = before_changed f xs i y h

@@ -30,13 +30,13 @@ use Rattle.bz_core.proofs.SplitColumns.{splits_at}
 
 -- ---- nodes that stay as they are
 -- each node has the region and the end of the one that was there
-abbrev AreSteady : List Node → List Node → Type 0
+abbrev pub AreSteady : List Node → List Node → Type 0
 AreSteady nodes later = (n : ℕ) (z : Node) → IsAt later n z → (x : Node) × IsAt nodes n x × (z.region ≡ x.region) × (z.closing ≡ x.closing)
 
-steady_same : (nodes : List Node) → AreSteady nodes nodes
+pub steady_same : (nodes : List Node) → AreSteady nodes nodes
 steady_same nodes n z h = (z, h, refl, refl)
 
-steady_changed : (f : Node → Node) (nodes : List Node) (i : ℕ) → ((x : Node) → (f x).region ≡ x.region) → ((x : Node) → (f x).closing ≡ x.closing) → AreSteady nodes (changed f nodes i)
+pub steady_changed : (f : Node → Node) (nodes : List Node) (i : ℕ) → ((x : Node) → (f x).region ≡ x.region) → ((x : Node) → (f x).closing ≡ x.closing) → AreSteady nodes (changed f nodes i)
 steady_changed f nodes i region closing n z h = by (at_changed f nodes i n z h)
   where
     by : ((x : Node) × (slice_get nodes n ≡ Some x) × ((z ≡ x) ⊎ ((n ≡ i) × (z ≡ f x)))) → (x : Node) × IsAt nodes n x × (z.region ≡ x.region) × (z.closing ≡ x.closing)
@@ -47,7 +47,7 @@ steady_where : (b : Bool) (nodes later : List Node) → AreSteady nodes later �
 steady_where true nodes later h = h
 steady_where false nodes later h = steady_same nodes
 
-steady_freed : (o : Option Post) (number : ℕ) (nodes : List Node) → AreSteady nodes (freed_where_live o number nodes)
+pub steady_freed : (o : Option Post) (number : ℕ) (nodes : List Node) → AreSteady nodes (freed_where_live o number nodes)
 steady_freed None number nodes = steady_same nodes
 steady_freed (Some post) number nodes = steady_where (is_live post) nodes (changed (freed_by number) nodes post.node) (steady_changed (freed_by number) nodes post.node (λ x. refl) (λ x. refl))
 

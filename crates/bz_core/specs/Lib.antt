@@ -1,8 +1,13 @@
+pub mod Certificates
 pub mod Covers
 pub mod Finished
 pub mod Histories
+pub mod Leaves
+pub mod Lives
+pub mod Measures
 pub mod Pools
 pub mod Posts
+pub mod Sizes
 pub mod States
 pub mod Steps
 pub mod Trees

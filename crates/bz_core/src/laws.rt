@@ -1,9 +1,14 @@
 //! What is true of every legal history.
+ghost use Rattle.bz_core.specs.Certificates.{CertificatesAreRight};
 ghost use Rattle.bz_core.specs.Covers.{NothingBetterIsLost};
 ghost use Rattle.bz_core.specs.Finished.{FinishedSearchesAreTrue, RaysAreTrue};
 ghost use Rattle.bz_core.specs.Histories.{CountsRise};
+ghost use Rattle.bz_core.specs.Leaves.{LeavesAreRight};
+ghost use Rattle.bz_core.specs.Lives.{LivesAreRight};
+ghost use Rattle.bz_core.specs.Measures.{NodesAreFew};
 ghost use Rattle.bz_core.specs.Pools.{PoolsAreRight};
 ghost use Rattle.bz_core.specs.Posts.{PostsAreRight};
+ghost use Rattle.bz_core.specs.Sizes.{SizesAreRight};
 ghost use Rattle.bz_core.specs.Trees.{TreesAreWhole};
 
 /// The counts of each worker's stamps are 0, 1, 2 and on, each once and in order.
@@ -29,6 +34,27 @@ pub fn trees_are_whole()
     ensures { TreesAreWhole }
 {}
 
+/// Each closing leaf is empty, or its bound is no less than the value of the best post now.
+pub fn leaves_are_right()
+    ensures { LeavesAreRight }
+{}
+
+/// The live post of a node is one of its own that nothing has ended, and each such post is the live one of its node, which
+/// is open.
+pub fn lives_are_right()
+    ensures { LivesAreRight }
+{}
+
+/// The nodes that are there, with those that may still come, are at most twice the whole points of the root's box, less one.
+pub fn nodes_are_few()
+    ensures { NodesAreFew }
+{}
+
+/// The units are those of the closed nodes and of the appended cuts, and never more than the budget.
+pub fn sizes_are_right()
+    ensures { SizesAreRight }
+{}
+
 /// Nothing better is lost: each feasible point that is better than the best post so far, or each where there is none, lies in
 /// the box of an open node.
 pub fn nothing_better_is_lost()
@@ -44,4 +70,10 @@ pub fn finished_searches_are_true()
 /// In mode Point a best post shows that the model is unbounded.
 pub fn rays_are_true()
     ensures { RaysAreTrue }
+{}
+
+/// Where no node is open there is a tree below the first one, and with it the cuts and the best post's parts show what a
+/// certificate has to show, without a wide sum in the cuts or the leaves.
+pub fn certificates_are_right()
+    ensures { CertificatesAreRight }
 {}

@@ -5,6 +5,7 @@ mod laws;
 mod state;
 
 pub use laws::{
-    counts_rise, finished_searches_are_true, nothing_better_is_lost, pools_are_right,
-    posts_are_right, rays_are_true, trees_are_whole,
+    certificates_are_right, counts_rise, finished_searches_are_true, leaves_are_right,
+    lives_are_right, nodes_are_few, nothing_better_is_lost, pools_are_right, posts_are_right,
+    rays_are_true, sizes_are_right, trees_are_whole,
 };
