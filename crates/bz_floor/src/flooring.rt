@@ -27,12 +27,7 @@ fn decomposed(split: &Split)
 
 /// What the program of the floor comes to: the cut of a basis that shows a least cost, or a direction along which the
 /// cost falls.
-fn find_answer(
-    alloc: Global,
-    split: &Split,
-    block: u32,
-    lp: &Lp,
-) -> Result<FloorAnswer, LpStop>
+fn find_answer(alloc: Global, split: &Split, block: u32, lp: &Lp) -> Result<FloorAnswer, LpStop>
     requires first { 0 < block }
     requires last { block ≤ blocks_of split.now.part }
     requires program { IsProgramOf (floor_of split.now.model split.now.part block) lp.now }
@@ -46,7 +41,10 @@ fn find_answer(
             cut_answer(basis, made)
         },
         Answer::Ray {
-            basis, column, d, ..
+            basis,
+            column,
+            d,
+            ..
         } => {
             let made = judged_direction(alloc, split, block, d.as_slice());
             ray_answer(basis, column, made)

@@ -24,7 +24,10 @@ fn wide_of(basis: Items<u32>, column: Option<u32>, list: u32, at: u32) -> LpStop
 }
 
 /// The cut that was made, with its basis.
-pub(crate) fn cut_answer(basis: Items<u32>, made: Result<Cut, MakeStop>) -> Result<FloorAnswer, LpStop>
+pub(crate) fn cut_answer(
+    basis: Items<u32>,
+    made: Result<Cut, MakeStop>,
+) -> Result<FloorAnswer, LpStop>
     ensures { result ≡ cut_answered basis made }
 {
     match made {
