@@ -1,13 +1,12 @@
 -- The direction of a block over all columns of the model: along it every feasible point stays feasible.
-use Rattle.std.specs.Prelude.{ℕ, suc, ◌+◌, ◌<◌, ◌≤◌, ◌≡◌, ◌≢◌, Bool, true, false, not, eqb, ℤ, pos, ◌+ℤ◌, ◌*ℤ◌, ◌≤ℤ◌, ◌<ℤ◌, List, [], ◌∷◌, ◌++◌, length, map, filter, get_or, Option, Some, None, IfSome, if◌then◌else◌, ◌==◌, ◌&&◌}
-use Rattle.std.specs.Bool.{OnTrue}
+use Rattle.std.specs.Prelude.{ℕ, suc, ◌+◌, ◌<◌, ◌≤◌, ◌≡◌, ◌≢◌, true, false, not, ℤ, pos, ◌*ℤ◌, ◌≤ℤ◌, List, length, get_or, Option, Some, None, IfSome, if◌then◌else◌, ◌==◌, ◌&&◌}
 use Rattle.std.specs.List.{AllByRecursion, enumerate_from, flat_map}
 use Rattle.std.proofs.Common.{refl, ap, sym, subst, ◌∙◌, arith, inl, inr}
-use Rattle.std.proofs.lemmas.Bool.{OnTrue_at, OnTrue_from, and_from, cases_Bool, cases_eq, eq-eqb, eqb-true, ne_eqb, not_from_false}
+use Rattle.std.proofs.lemmas.Bool.{OnTrue_at, OnTrue_from, and_from, cases_Bool, cases_eq, eq-eqb, ne_eqb, not_from_false}
 use Rattle.std.proofs.lemmas.Int.{ints}
 use Rattle.std.proofs.lemmas.List.{get_or-map, length-map}
 use Rattle.std.proofs.lemmas.List.FromFn.{get_or-enumerate_from, length-enumerate_from}
-use Rattle.bz_algebra.specs.Sums.{AllBelow, dot, upto}
+use Rattle.bz_algebra.specs.Sums.{AllBelow, dot}
 use Rattle.bz_algebra.proofs.Ring.{cancel_le_left, mul_zero}
 use Rattle.bz_algebra.proofs.SumLemmas.{dot_same_below, dot_zero, upto_only}
 use Rattle.bz_num.specs.declared.Frac.{Frac}
@@ -17,7 +16,7 @@ use Rattle.bz_model.specs.declared.Model.{Model}
 use Rattle.bz_model.specs.declared.Row.{Row}
 use Rattle.bz_model.specs.Decomposed.{IsDecomposed}
 use Rattle.bz_model.specs.Parting.{IneqHolds, blocks_of, column_at, continuous_in, home_of, inequalities_of, inner_cost, part_of, position_of, rows_in, sides_of_column, sides_of_row, terms_in, width_of}
-use Rattle.bz_model.specs.Points.{IsWithinBounds, RowHolds, coordinate}
+use Rattle.bz_model.specs.Points.{RowHolds, coordinate}
 use Rattle.bz_model.specs.Rays.{ColumnAllows, IsFallingRay, RowAllows}
 use Rattle.bz_model.specs.Splits.{FitsPart}
 use Rattle.bz_model.specs.Strict.{IsInOneBlock, IsStrictColumn}

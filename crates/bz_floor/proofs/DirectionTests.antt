@@ -1,8 +1,8 @@
 -- The tests of a direction along which every feasible point stays feasible: only a wide sum fails them.
-use Rattle.std.specs.Prelude.{ℕ, ◌≡◌, ◌⊎◌, ℤ, List, [], ◌∷◌, ◌++◌, length}
+use Rattle.std.specs.Prelude.{ℕ, ℤ, List, [], ◌∷◌, ◌++◌}
 use Rattle.std.specs.List.{AllByRecursion, enumerate_from}
 use Rattle.std.proofs.Common.{inl, inr}
-use Rattle.bz_first.specs.Tests.{Test, each_of}
+use Rattle.bz_first.specs.Tests.{each_of}
 use Rattle.bz_model.specs.declared.Column.{Column}
 use Rattle.bz_model.specs.declared.Model.{Model}
 use Rattle.bz_model.specs.Points.{coordinate}

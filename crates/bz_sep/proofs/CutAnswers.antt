@@ -1,12 +1,12 @@
 -- What the basis's multipliers make of a separation without a completion.
-use Rattle.std.specs.Prelude.{ℕ, ◌+◌, ◌*◌, ◌<◌, ◌≤◌, ◌≡◌, ℤ, pos, ◌<ℤ◌, ◌++◌, List, length, map, Result, Ok, Err, IfOk, IfErr, true}
-use Rattle.std.proofs.Common.{refl, sym, ◌∙◌, arith, inl, inr}
+use Rattle.std.specs.Prelude.{ℕ, ◌+◌, ◌*◌, ◌≤◌, ◌≡◌, ℤ, pos, ◌<ℤ◌, List, length, map, Result, Ok, Err, IfOk, IfErr, true}
+use Rattle.std.proofs.Common.{refl, arith, inl}
 use Rattle.std.proofs.lemmas.List.{length-append, length-map}
 use Rattle.bz_num.specs.Dense.{entry}
 use Rattle.bz_model.specs.declared.Master.{Master}
 use Rattle.bz_model.specs.declared.Model.{Model}
 use Rattle.bz_model.specs.Decomposed.{IsDecomposed}
-use Rattle.bz_model.specs.Parting.{blocks_of, inequalities_of, width_of}
+use Rattle.bz_model.specs.Parting.{inequalities_of, width_of}
 use Rattle.bz_cut.specs.declared.Cut.{Cut}
 use Rattle.bz_cut.specs.declared.Mode.{Mode}
 use Rattle.bz_cut.specs.declared.Mode.TheVariants as mode

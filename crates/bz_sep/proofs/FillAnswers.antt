@@ -1,6 +1,6 @@
 -- What a point of a separation's program makes of a completion.
-use Rattle.std.specs.Prelude.{ℕ, suc, ◌+◌, ◌*◌, ◌<◌, ◌≤◌, ◌≡◌, ℤ, pos, ◌≤ℤ◌, ◌<ℤ◌, List, [], ◌∷◌, ◌++◌, length, Result, Ok, Err, IfErr, true}
-use Rattle.std.specs.List.{AllByRecursion, enumerate_from}
+use Rattle.std.specs.Prelude.{ℕ, suc, ◌*◌, ◌≡◌, ℤ, pos, List, [], ◌∷◌, length, Result, Ok, Err, IfErr, true}
+use Rattle.std.specs.List.{AllByRecursion}
 use Rattle.std.proofs.Common.{refl, sym, subst, ◌∙◌, arith, inl, inr}
 use Rattle.std.specs.Result.{IsErrAnd}
 use Rattle.bz_algebra.specs.Numbers.{IsNarrow}
@@ -9,7 +9,6 @@ use Rattle.bz_first.proofs.Chains.{passed_on, stopped}
 use Rattle.bz_first.proofs.TestLemmas.{all_behind, all_front}
 use Rattle.bz_num.specs.Dense.{AreNarrow, entry}
 use Rattle.bz_model.specs.declared.BlockPart.{BlockPart}
-use Rattle.bz_model.specs.declared.Ineq.{Ineq}
 use Rattle.bz_model.specs.declared.Master.{Master}
 use Rattle.bz_model.specs.declared.Model.{Model}
 use Rattle.bz_model.specs.Decomposed.{IsDecomposed}

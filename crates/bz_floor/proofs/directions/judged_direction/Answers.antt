@@ -1,4 +1,4 @@
-use Rattle.std.proofs.Common.{◌≡◌, ap, ◌∙◌, List, ℤ, length}
+use Rattle.std.proofs.Common.{◌≡◌, ap, ◌∙◌, length}
 use Rattle.bz_num.specs.Dense.{entry}
 use Rattle.bz_first.specs.Tests.{AllHold, IsFirstFault}
 use Rattle.bz_judge.specs.RayTests.{ray_tests}

@@ -1,4 +1,4 @@
-use Rattle.std.proofs.Common.{rules, pos, ◌<ℤ◌, length, FitsSigned, to_z-of_z}
+use Rattle.std.proofs.Common.{rules, length, FitsSigned, to_z-of_z}
 use Rattle.std.specs.Int.{w128}
 use Rattle.std.specs.Int.RustNames.{unsigned_abs}
 use Rattle.bz_num.specs.Dense.{IsDivisorOf, entry}

@@ -1,4 +1,4 @@
-use Rattle.std.proofs.Common.{rules, ◌≡◌, refl, ◌<◌, ◌≤◌, ◌*◌, ◌^◌, ap, sym, ◌∙◌, ℕ, List, length, get_or, arith, ℤ, pos, FitsSigned, to_z-of_z}
+use Rattle.std.proofs.Common.{rules, ◌≡◌, refl, ◌<◌, ◌*◌, ◌^◌, ap, length, get_or, arith, pos, FitsSigned, to_z-of_z}
 use Rattle.std.specs.Int.{w128}
 use Rattle.bz_model.specs.Limits.{list_limit}
 use Rattle.bz_model.specs.Parting.{column_at, columns_of, width_of}

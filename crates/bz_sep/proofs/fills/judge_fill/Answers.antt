@@ -1,6 +1,3 @@
-use Rattle.std.proofs.Common.{◌≡◌, subst, sym}
-use Rattle.bz_first.specs.Tests.{Judges}
-use Rattle.bz_first.proofs.Chains.{stopped}
 use Rattle.bz_first.proofs.TestLemmas.{judges_then}
 use Rattle.bz_judge.specs.PointTests.{block_tests}
 use Rattle.bz_judge.specs.ValueTests.{cost_tests}

@@ -1,4 +1,4 @@
-use Rattle.std.proofs.Common.{rules, ◌≡◌, ap, ◌∙◌, sym, subst, List, ℤ, FitsSigned, to_z-of_z}
+use Rattle.std.proofs.Common.{rules, FitsSigned, to_z-of_z}
 use Rattle.std.specs.Int.{w128}
 use Rattle.bz_num.specs.Dense.{entry}
 use Rattle.bz_model.specs.Parting.{width_of}

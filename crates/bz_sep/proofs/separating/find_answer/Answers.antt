@@ -1,4 +1,4 @@
-use Rattle.std.proofs.Common.{rules, ◌≡◌, ◌+◌, ◌*◌, ◌≤◌, subst, ℕ, length, arith, ℤ, pos, ◌<ℤ◌, ◌≤ℤ◌, true, FitsSigned, to_z-of_z}
+use Rattle.std.proofs.Common.{rules, ◌≡◌, ◌*◌, subst, ℕ, length, arith, pos, ◌<ℤ◌, ◌≤ℤ◌, true, FitsSigned, to_z-of_z}
 use Rattle.std.proofs.lemmas.Int.{ints}
 use Rattle.std.specs.Int.{w128}
 use Rattle.bz_num.specs.Dense.{entry}

@@ -1,4 +1,4 @@
-use Rattle.std.proofs.Common.{◌≡◌, length, pos, arith}
+use Rattle.std.proofs.Common.{◌≡◌, length, arith}
 use Rattle.std.proofs.lemmas.Int.{ints}
 use Rattle.bz_model.proofs.WorkedModel.{two_columns}
 use Rattle.bz_cut.proofs.WorkedSplits.{one_row}
