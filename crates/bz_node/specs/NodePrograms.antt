@@ -72,7 +72,8 @@ AnswersNode n a = IsNodeAnswer (model_of n) (part_of n) (region_of n) (cuts_of n
 
 -- there was no memory, or a number is wide where the stop says
 abbrev pub StopsProgram : NodeProgram → LpStop → Type 0
-StopsProgram n (lp_stop.Wide at) = IsWideInNode (model_of n) (part_of n) (region_of n) (cuts_of n) (mode_of n) n.lp.now at
+StopsProgram n (lp_stop.Wide at) =
+    IsWideInNode (model_of n) (part_of n) (region_of n) (cuts_of n) (mode_of n) n.lp.now at
 StopsProgram n lp_stop.OutOfMemory = Unit {0}
 
 -- ---- leaves
@@ -82,8 +83,8 @@ HoldsIn n leaf = LeafHolds (model_of n) (part_of n) (region_of n) (cuts_of n) le
 abbrev pub FitsIn : NodeProgram → Leaf → Type 0
 FitsIn n leaf = FitsLeaf (model_of n) (part_of n) (region_of n) (cuts_of n) leaf
 
--- The numbers of y are one for each row of the program, none of them negative, nor is `by`; and their leaf holds over the
--- node's box and cuts.
+-- The numbers of y are one for each row of the program, none of them negative, nor is `by`; and their leaf holds over
+-- the node's box and cuts.
 pub record AreLeafNumbers (n : NodeProgram) (y : List ℤ) (by : ℤ) : Type 0 where
   pub count : length y ≡ length n.lp.now.rows
   pub multipliers : AreNonnegativeTo (length n.lp.now.rows) (entry y)

@@ -13,6 +13,8 @@ use Rattle.bz_cut.specs.declared.Mode.TheVariants as mode
 use Rattle.bz_tree.specs.declared.Leaf.{Leaf}
 use Rattle.bz_tree.specs.Integers.{positions_of}
 use Rattle.bz_judge.specs.declared.faults.CheckFault.TheVariants as fault
+use Rattle.bz_judge.specs.PointTests.{Tests}
+use Rattle.bz_judge.specs.ValueTests.{value_tests}
 use Rattle.bz_tableau.specs.declared.answers.LpStop.{LpStop}
 use Rattle.bz_tableau.specs.declared.answers.LpStop.TheVariants as lp_stop
 use Rattle.bz_tableau.specs.declared.answers.Vals.{Vals}
@@ -22,7 +24,7 @@ use Rattle.bz_std.specs.LowestForms.{IsLowestOf}
 use Rattle.bz_std.specs.Meanings.{MeetsWithin, differences}
 use Rattle.bz_std.specs.Tasks.{IsMasterOf, node_cost}
 use Rattle.bz_event.specs.Failing.{Fails}
-use Rattle.bz_event.specs.Nodes.{FitsValue, HasLeafOfValue}
+use Rattle.bz_event.specs.Nodes.{FitsValue, HasLeafOfValue, value_of}
 use Rattle.bz_event.specs.Stops.{IsWidePointSum, master_tests}
 use Rattle.bz_node.specs.declared.programs.NodeProgram.{NodeProgram}
 use Rattle.bz_node.specs.NodePrograms.{cuts_of, mode_of, model_of, part_of, posed_of, region_of}
@@ -38,6 +40,10 @@ pub record IsWholePoint (n : NodeProgram) (z : Vals) (leaf : Option Leaf) : Type
   pub whole : AllByRecursion (λ p. IsWhole (differences (entry z.num) p) z.den) (positions_of (model_of n) (part_of n))
   pub leaf_is : HasLeafOfValue (model_of n) (part_of n) (region_of n) (cuts_of n) (mode_of n)
       (dot (node_cost (model_of n) (part_of n) mode.Cost) (differences (entry z.num))) z.den leaf
+
+-- the tests of the value that the point has
+abbrev pub own_value_tests : Model → List ℕ → Master → Tests
+own_value_tests m part point = value_tests m part point (value_of m part point)
 
 -- no sum of the point is wide, or the one at this place of this list is
 abbrev pub FindsWideSum : Model → List ℕ → Mode → Master → Option (ℕ × ℕ) → Type 0

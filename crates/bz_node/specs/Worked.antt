@@ -1,5 +1,5 @@
--- What the tests' tasks fit: of the worked model with x in the master and y in block 1, a box of one integer column and a
--- floor of block 1 with a second cut.
+-- What the tests' tasks fit: of the worked model with x in the master and y in block 1, a box of one integer column and
+-- a floor of block 1 with a second cut.
 use Rattle.std.specs.Prelude.{ℕ, ◌≡◌, pos, List, [], ◌∷◌, length}
 use Rattle.bz_algebra.specs.Sums.{AllBelow}
 use Rattle.bz_model.specs.declared.Model.{Model}

@@ -31,8 +31,8 @@ fn fits(program: &NodeProgram<'_>, leaf: &Leaf) -> bool
     judge_leaf(program.split, &sides, 0, leaf).is_ok()
 }
 
-/// The leaf that the multipliers y of the program's rows make over `by`. Where a sum or a product is wide that tells that
-/// it holds there is none.
+/// The leaf that the multipliers y of the program's rows make over `by`. Where a sum or a product is wide that tells
+/// that it holds there is none.
 pub(crate) fn fitting_leaf(
     alloc: Global,
     program: &NodeProgram<'_>,

@@ -66,7 +66,8 @@ pub(crate) fn point_answer(
     requires numbers { HasNumbers (variables_of program.now) (differences (entry z.now.num)) numbers }
     requires point { IsWholePoint program.now z.now leaf }
     ensures answer { IfOk result (AnswersNode program.now) }
-    ensures stop { IfErr result (StopsPoint (model_of program.now) (part_of program.now) (mode_of program.now) z.now basis) }
+    ensures stop { IfErr result
+        (StopsPoint (model_of program.now) (part_of program.now) (mode_of program.now) z.now basis) }
 {
     let point = point_of(alloc, program.split, numbers.into_vec(), z.den)?;
     match wide_sum(program.split, program.task.mode, &point) {

@@ -54,9 +54,9 @@ fn answer_of(alloc: Global, program: &NodeProgram<'_>) -> Result<NodeAnswer, LpS
     }
 }
 
-/// What a node comes to: that no point meets it, the first integer column in file order that isn't whole at a least point,
-/// or a least point that is whole there. In mode Cost the leaf shows that no point of the node costs less. It stops where a
-/// number of the program's solution or a sum of the answer is wide, which is named, or for want of memory.
+/// What a node comes to: that no point meets it, the first integer column in file order that isn't whole at a least
+/// point, or a least point that is whole there. In mode Cost the leaf shows that no point of the node costs less. It
+/// stops where a number of the program's solution or a sum of the answer is wide, which is named, or for want of memory.
 pub fn solve_node(
     alloc: Global,
     split: &Split,

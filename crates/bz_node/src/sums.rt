@@ -5,12 +5,10 @@ ghost use Rattle.bz_first.specs.Tests.{Judges};
 ghost use Rattle.bz_model.specs.Parting.{inequalities_of};
 ghost use Rattle.bz_model.specs.PartPoints.{HoldsInMaster};
 ghost use Rattle.bz_judge.specs.declared.faults.CheckFault.TheVariants.{Wide};
-ghost use Rattle.bz_judge.specs.ValueTests.{value_tests};
 ghost use Rattle.bz_std.specs.Tasks.{IsMasterOf};
 ghost use Rattle.bz_event.specs.Failing.{IsWideFault};
-ghost use Rattle.bz_event.specs.Nodes.{value_of};
 ghost use Rattle.bz_event.specs.Stops.{master_tests};
-ghost use Rattle.bz_node.specs.PointSteps.{FindsWideSum};
+ghost use Rattle.bz_node.specs.PointSteps.{FindsWideSum, own_value_tests};
 
 use bz_cut::{Mode, judge_fold};
 use bz_judge::{CheckFault, VALUE_SUM, judge_master_rows, judge_value, value_sum, wide_in};
@@ -19,8 +17,7 @@ use bz_model::{Master, Split};
 /// Tests that no sum is wide of the point's value and of the objective that it states.
 fn judge_own_value(split: &Split, point: &Master) -> Result<(), CheckFault>
     requires { IsMasterOf split.now.part point.now }
-    ensures { Judges
-        (value_tests split.now.model split.now.part point.now (value_of split.now.model split.now.part point.now)) result }
+    ensures { Judges (own_value_tests split.now.model split.now.part point.now) result }
 {
     let value = judge_fold(value_sum(split, point), wide_in(VALUE_SUM, 0))?;
     judge_value(split, point, value)

@@ -1,7 +1,7 @@
 //! Nodes of examples/one.mps: an integer x in the master and a y that is at least 0 in block 1, with the row
-//! `2 x + y >= 1` and the cost `2 x + 3 y`, over the floor `-eta <= 0` and a second cut. Rows of the program, by which a
-//! leaf's multipliers are numbered: the upper end of x, its lower end, the floor, the second cut. And the node of a model
-//! without rows and columns.
+//! `2 x + y >= 1` and the cost `2 x + 3 y`, over the floor `-eta <= 0` and a second cut. Rows of the program, by which
+//! a leaf's multipliers are numbered: the upper end of x, its lower end, the floor, the second cut. And the node of a
+//! model without rows and columns.
 ghost use Rattle.std.specs.Prelude.{◌≡◌, ◌≢◌, ◌+ℤ◌, ◌<ℤ◌, ◌∷◌, [], IfOk, length, pos};
 ghost use Rattle.bz_algebra.specs.Numbers.{IsNarrow};
 ghost use Rattle.bz_model.specs.Worked.{AreWorkedColumns};
@@ -156,7 +156,7 @@ fn task(region: NodeBox, cuts: Items<Cut>, mode: Mode) -> NodeTask
     }
 }
 
-/// What the node of the box with these ends comes to, where x is between them, over the floor and the cut of three numbers.
+/// What the node of the box with these ends of x comes to, over the floor and the cut of three numbers.
 fn answer(
     alloc: Global,
     lower: i128,
@@ -273,7 +273,8 @@ fn leaf(answer: &NodeAnswer) -> Option<(&[(u32, i128)], i128, i128)> {
     }
 }
 
-/// Over `-6 x - eta <= -3` the least of `2 x + eta` is 1, at x = 1/2: the floor twice and the cut once bound it three times.
+/// Over `-6 x - eta <= -3` the least of `2 x + eta` is 1, at x = 1/2: the floor twice and the cut once bound three times
+/// as much.
 #[test]
 fn a_root_is_split_at_the_fractional_column(rt: HostRuntime) -> Result<(), Fail> {
     let answer = answer(rt.alloc(), 0, 1, (-6, 1, -3), Mode::Cost)?;
