@@ -2,6 +2,7 @@
 ghost use Rattle.bz_core.specs.Certificates.{CertificatesAreRight};
 ghost use Rattle.bz_core.specs.Covers.{NothingBetterIsLost};
 ghost use Rattle.bz_core.specs.Finished.{FinishedSearchesAreTrue, RaysAreTrue};
+ghost use Rattle.bz_core.specs.Fronts.{FrontsRise};
 ghost use Rattle.bz_core.specs.Histories.{CountsRise};
 ghost use Rattle.bz_core.specs.Leaves.{LeavesAreRight};
 ghost use Rattle.bz_core.specs.Lives.{LivesAreRight};
@@ -43,6 +44,11 @@ pub fn leaves_are_right()
 /// is open.
 pub fn lives_are_right()
     ensures { LivesAreRight }
+{}
+
+/// The fronts of a node's posts rise, and a live post is the last of its node.
+pub fn fronts_rise()
+    ensures { FrontsRise }
 {}
 
 /// The nodes that are there, with those that may still come, are at most twice the whole points of the root's box, less one.
