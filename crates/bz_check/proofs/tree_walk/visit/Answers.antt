@@ -1,7 +1,7 @@
 use Rattle.std.proofs.Common.{rules, FitsSigned, to_z-of_z}
 use Rattle.std.specs.Int.{w128}
 use Rattle.bz_check.specs.TreeGoals.{bounds_of}
-use Rattle.bz_check.proofs.Splitting.{place_is}
+use Rattle.bz_tree.proofs.SplitColumns.{place_is}
 use Rattle.bz_check.proofs.Visiting.{leaf_visits, split_visits}
 use Rattle.bz_check.proofs.tree_walk.visit.Goals as goal
 
