@@ -38,7 +38,7 @@ use Rattle.bz_core.specs.declared.state.Closing.{Closing}
 use Rattle.bz_core.specs.declared.state.Node.{Node}
 use Rattle.bz_core.specs.declared.state.Post.{Post}
 use Rattle.bz_core.specs.declared.state.Region.{Region}
-use Rattle.bz_core.specs.Certificates.{CertificatesAreRight, IsForkAt, IsTipAt, IsTreeAt}
+use Rattle.bz_core.specs.Certificates.{CertificatesAreRight, IsForkAt, IsInfeasibleCertificate, IsOptimalCertificate, IsTipAt, IsTreeAt, IsUnboundedCertificate, without_etas}
 use Rattle.bz_core.specs.Finished.{completions, parts_of}
 use Rattle.bz_core.specs.Leaves.{IsClosedBy, LeavesReach}
 use Rattle.bz_core.specs.Pools.{IsPoolOf}
@@ -196,18 +196,24 @@ certificates_are_right d budget root es t dec r = record { has_tree = has_tree; 
   where
     whole : IsTree d root t.cuts t.nodes
     whole = trees_are_whole d budget root es t r
+
     pool : IsPoolOf d es t
     pool = pools_are_right d budget root es t r
+
     leaves : LeavesReach d t
     leaves = leaves_are_right d budget root es t r
+
     filled : (post : Post) → IsBest t post → IsFilled post
     filled post best =
         let b : (x : Post) × IsAt t.posts best.0 x × IsFilled x = best_is_filled d budget root es t r best.0 best.1 in
         subst IsFilled (at_one t.posts best.0 b.0 post b.1 best.2) b.2
+
     right : (post : Post) → IsBest t post → IsPostOf d (mode_of t) t.nodes t.cuts post
     right post best = posts_are_right d budget root es t r best.0 post best.2
+
     has_tree : list_any is_open t.nodes ≡ false → (tree : Tree) × IsTreeAt t.nodes 0 tree
     has_tree none = tree_below d root t.cuts t.nodes whole none (length t.nodes) 0 (omega arith) (slice_get_within t.nodes 0 whole.first.node whole.first.is_node)
+
     bound : (tree : Tree) (c : Certificate) → IsTreeAt t.nodes 0 tree → c.cuts ≡ t.cuts → c.tree ≡ preorder tree → FitsBound d.model d.part c
     bound tree c at cuts tree_is = record {
       cuts = subst (AllByRecursion (FitsCut d.model d.part)) (sym cuts) pool.fit;
@@ -217,6 +223,7 @@ certificates_are_right d budget root es t dec r = record { has_tree = has_tree; 
       is_tree = tree_is;
       leaves = subst (λ (cs : List Cut). FitsTree d.model d.part cs (box_of root) tree) (sym cuts) (fits_below d root t.cuts t.nodes whole tree 0 root whole.first at);
     }
+
     empty_tree : t.best ≡ None → (tree : Tree) → IsTreeAt t.nodes 0 tree → PassesInfeasible d.model d.part t.cuts (preorder tree)
     empty_tree no_best tree at = record {
       cuts = pool.valid;
@@ -227,6 +234,7 @@ certificates_are_right d budget root es t dec r = record { has_tree = has_tree; 
       holds = holds_below d root t.cuts t.nodes whole tree 0 root whole.first at;
       empty = each_below t.nodes IsEmpty (λ leaf c. empty_without d t leaf no_best (leaves leaf c)) tree 0 at;
     }
+
     best_tree : mode_of t ≡ mode.Cost → (post : Post) → IsBest t post → (tree : Tree) → IsTreeAt t.nodes 0 tree → PassesOptimal d.model d.part (parts_of post) (value_of d.model d.part post.point) t.cuts (preorder tree)
     best_tree cost post best tree at =
         let h : IsPostOf d (mode_of t) t.nodes t.cuts post = right post best in
@@ -244,21 +252,27 @@ certificates_are_right d budget root es t dec r = record { has_tree = has_tree; 
           holds = holds_below d root t.cuts t.nodes whole tree 0 root whole.first at;
           bounds = each_below t.nodes (Reaches (value_of d.model d.part post.point) post.point.den) (λ leaf c. reaches_value d t leaf post best (leaves leaf c)) tree 0 at;
         }
+
     infeasible : t.best ≡ None → (tree : Tree) → IsTreeAt t.nodes 0 tree → (c : Certificate) → IsInfeasibleCertificate t tree c → Passes d.model d.part c × Fits d.model d.part c
     infeasible no_best tree at c is = (
-        record { as_its_verdict = subst (λ (v : Verdict). PassesAs d.model d.part c v c.parts) (sym is.verdict) (subst (λ (cs : List Cut). PassesInfeasible d.model d.part cs c.tree) (sym is.cuts) (subst (PassesInfeasible d.model d.part t.cuts) (sym is.tree_is) (empty_tree no_best tree at))) },
-        record { as_its_verdict = subst (λ (v : Verdict). FitsAs d.model d.part c v c.parts) (sym is.verdict) (bound tree c at is.cuts is.tree_is) })
+      record { as_its_verdict = subst (λ (v : Verdict). PassesAs d.model d.part c v c.parts) (sym is.verdict) (subst (λ (cs : List Cut). PassesInfeasible d.model d.part cs c.tree) (sym is.cuts) (subst (PassesInfeasible d.model d.part t.cuts) (sym is.tree_is) (empty_tree no_best tree at))) },
+      record { as_its_verdict = subst (λ (v : Verdict). FitsAs d.model d.part c v c.parts) (sym is.verdict) (bound tree c at is.cuts is.tree_is) },
+    )
+
     optimal : mode_of t ≡ mode.Cost → (post : Post) → IsBest t post → (tree : Tree) → IsTreeAt t.nodes 0 tree → (c : Certificate) → IsOptimalCertificate d t post tree c → Passes d.model d.part c × Fits d.model d.part c
     optimal cost post best tree at c is = (
-        record { as_its_verdict = subst (λ (v : Verdict). PassesAs d.model d.part c v c.parts) (sym is.verdict) (subst (PassesAs d.model d.part c verdict.Optimal) (sym is.parts) passes) },
-        record { as_its_verdict = subst (λ (v : Verdict). FitsAs d.model d.part c v c.parts) (sym is.verdict) (subst (FitsAs d.model d.part c verdict.Optimal) (sym is.parts) fits) })
+      record { as_its_verdict = subst (λ (v : Verdict). PassesAs d.model d.part c v c.parts) (sym is.verdict) (subst (PassesAs d.model d.part c verdict.Optimal) (sym is.parts) passes) },
+      record { as_its_verdict = subst (λ (v : Verdict). FitsAs d.model d.part c v c.parts) (sym is.verdict) (subst (FitsAs d.model d.part c verdict.Optimal) (sym is.parts) fits) },
+    )
       where
         h : IsPostOf d mode.Cost t.nodes t.cuts post
         h = subst (λ (w : Mode). IsPostOf d w t.nodes t.cuts post) cost (right post best)
+
         passes : PassesOptimal d.model d.part (parts_of post) c.value c.cuts c.tree
         passes = subst (λ (v : ℤ). PassesOptimal d.model d.part (parts_of post) v c.cuts c.tree) (sym is.value)
             (subst (λ (cs : List Cut). PassesOptimal d.model d.part (parts_of post) (value_of d.model d.part post.point) cs c.tree) (sym is.cuts)
-                (subst (PassesOptimal d.model d.part (parts_of post) (value_of d.model d.part post.point) t.cuts) (sym is.tree_is) (best_tree cost post best tree at)))
+            (subst (PassesOptimal d.model d.part (parts_of post) (value_of d.model d.part post.point) t.cuts) (sym is.tree_is) (best_tree cost post best tree at)))
+
         fits : FitsOptimal d.model d.part (parts_of post) c
         fits = record {
           point = post_fits d mode.Cost t post h (filled post best);
@@ -267,21 +281,28 @@ certificates_are_right d budget root es t dec r = record { has_tree = has_tree; 
           stated = subst (λ (v : ℤ). FitsStated d.model v post.point.den) (sym is.value) h.posted.fits_value.1;
           bound = bound tree c at is.cuts is.tree_is;
         }
+
     unbounded : (post : Post) → IsBest t post → (ray : FallingRay) → t.ray ≡ Some ray → (c : Certificate) → IsUnboundedCertificate d t post ray c → Passes d.model d.part c × Fits d.model d.part c
     unbounded post best ray ray_is c is = (
-        record { as_its_verdict = subst (λ (v : Verdict). PassesAs d.model d.part c v c.parts) (sym is.verdict) (subst (PassesAs d.model d.part c verdict.Unbounded) (sym is.parts) passes) },
-        record { as_its_verdict = subst (λ (v : Verdict). FitsAs d.model d.part c v c.parts) (sym is.verdict) (subst (FitsAs d.model d.part c verdict.Unbounded) (sym is.parts) fits) })
+      record { as_its_verdict = subst (λ (v : Verdict). PassesAs d.model d.part c v c.parts) (sym is.verdict) (subst (PassesAs d.model d.part c verdict.Unbounded) (sym is.parts) passes) },
+      record { as_its_verdict = subst (λ (v : Verdict). FitsAs d.model d.part c v c.parts) (sym is.verdict) (subst (FitsAs d.model d.part c verdict.Unbounded) (sym is.parts) fits) },
+    )
       where
         h : IsPostOf d (mode_of t) t.nodes t.cuts post
         h = right post best
+
         own : IsRayOf d ray
         own = ray_is_right d budget root es t r ray ray_is
+
         full : AreFeasible d.model d.part (parts_of post)
         full = post_feasible d root (mode_of t) t post whole r.root_is.is_root h (filled post best)
+
         shape : HasPointShape d.model d.part (parts_of post)
         shape = post_shape d (mode_of t) t.nodes post t.cuts h (filled post best)
+
         parts : Parts
         parts = record { master = without_etas post.point; blocks = completions post.fills }
+
         passes : PassesUnbounded d.model d.part parts c.ray
         passes = subst (PassesUnbounded d.model d.part parts) (sym is.ray_is) (record {
           shape = record { master = record { den = shape.master.den; x = shape.master.x }; blocks = shape.blocks; each = shape.each };
@@ -293,8 +314,10 @@ certificates_are_right d budget root es t dec r = record { has_tree = has_tree; 
           blocks = full.rows;
           falls = floor_ray_falls d.model d.part ray.block ray.d dec own.first own.last own.is_ray;
         })
+
         point : FitsPoint d.model d.part (parts_of post)
         point = post_fits d (mode_of t) t post h (filled post best)
+
         fits : FitsUnbounded d.model d.part parts c.ray
         fits = subst (FitsUnbounded d.model d.part parts) (sym is.ray_is) (record {
           point = record {

@@ -1,5 +1,5 @@
 -- The fronts of posts after each event.
-use Rattle.std.proofs.Common.{◌≡◌, refl, sym, ◌∙◌, ap, subst, ℕ, zero, suc, ◌+◌, ◌<◌, ◌≤◌, List, [], ◌∷◌, ◌++◌, length, inl, inr, arith}
+use Rattle.std.proofs.Common.{◌≡◌, refl, sym, ◌∙◌, ap, subst, ℕ, suc, ◌+◌, ◌<◌, ◌≤◌, List, [], ◌∷◌, ◌++◌, length, inl, inr, arith}
 use Rattle.std.proofs.Math.Nat.{le-max_left, le-max_right, le_trans}
 use Rattle.std.proofs.lemmas.Bool.{cases_eq}
 use Rattle.std.proofs.lemmas.Option.{slice_get_within}
@@ -11,18 +11,15 @@ use Rattle.bz_model.specs.Splits.{Decomposition}
 use Rattle.bz_cut.specs.declared.Mode.{Mode}
 use Rattle.bz_cut.specs.declared.Mode.TheVariants as mode
 use Rattle.bz_tree.specs.declared.Leaf.{Leaf}
-use Rattle.bz_event.specs.declared.events.Entry.{Entry}
 use Rattle.bz_event.specs.declared.events.Event.{Event}
 use Rattle.bz_event.specs.declared.events.Event.TheVariants as event
 use Rattle.bz_event.specs.declared.events.How.{How}
 use Rattle.bz_core.specs.declared.state.Node.{Node}
 use Rattle.bz_core.specs.declared.state.Post.{Post}
-use Rattle.bz_core.specs.declared.state.Region.{Region}
 use Rattle.bz_core.specs.Fronts.{AreFronts, FrontsRise}
-use Rattle.bz_core.specs.Histories.{IsReplay}
 use Rattle.bz_core.specs.Lives.{AreLives, HasLivePost, IsLivePostOf}
 use Rattle.bz_core.specs.Posts.{ArePosts}
-use Rattle.bz_core.specs.States.{State, changed, changed_at, closed_by, effect, end_of, ended_by, filled_by, freed_by, freed_where_live, is_live, is_open, least_front, live_of, mode_of, opening, posted_by, posted_point, sides_opened}
+use Rattle.bz_core.specs.States.{State, changed, changed_at, closed_by, effect, end_of, ended_by, filled_by, freed_by, freed_where_live, is_live, is_open, least_front, live_of, mode_of, posted_by, posted_point, sides_opened}
 use Rattle.bz_core.specs.Steps.{IsAt, IsClosing, IsPostStep, MayFollow}
 use Rattle.bz_core.proofs.Growing.{histories_grow}
 use Rattle.bz_core.proofs.Lists.{at_changed, at_either, at_more, at_one, before_changed, changed_there, length-changed}
@@ -83,6 +80,7 @@ fronts_filled f nodes posts p node front live h = record {
   where
     like : ArePostsOf posts (changed f posts p)
     like = of_changed f posts p node front (λ x e. sym (live x) ∙ e)
+
     ended : (i : ℕ) (y : Post) (z : Node) → IsAt (changed f posts p) i y → is_live y ≡ false → IsAt nodes y.node z → is_open z ≡ true → y.front < z.after
     ended i y z is dead at stands = by (at_changed f posts p i y is)
       where
@@ -104,8 +102,10 @@ fronts_freed number at p nodes posts post is live most h = record {
   where
     later : List Post
     later = changed (ended_by at) posts p
+
     like : ArePostsOf posts later
     like = of_changed (ended_by at) posts p (λ x. refl) (λ x. refl) (still_dead at)
+
     -- a post of the same node was there no later, so its front is no greater
     before : (i : ℕ) (x : Post) → IsAt posts i x → x.node ≡ post.node → x.front ≤ post.front
     before i x at_x same = elim (cases_eq i p) [
@@ -118,11 +118,13 @@ fronts_freed number at p nodes posts post is live most h = record {
           let less : x.front < post.front = h.rise i p x post at_x is (omega (arith, no_later, other)) same in
           omega arith
     ]
+
     ended : (i : ℕ) (y : Post) (z : Node) → IsAt later i y → is_live y ≡ false → IsAt (changed (freed_by number) nodes post.node) y.node z → is_open z ≡ true → y.front < z.after
     ended i y z at_y dead at_z stands = elim (cases_eq y.node post.node) [ inl e ↦ here e | inr other ↦ there other ]
       where
         x : (x : Post) × IsAt posts i x × (y.node ≡ x.node) × (y.front ≡ x.front) × (is_live y ≡ true → is_live x ≡ true)
         x = like i y at_y
+
         here : y.node ≡ post.node → y.front < z.after
         here e =
             let b : (n : Node) × (slice_get nodes post.node ≡ Some n) × (z ≡ freed_by number n) = before_changed (freed_by number) nodes post.node z (subst (λ (k : ℕ). IsAt (changed (freed_by number) nodes post.node) k z) e at_z) in
@@ -130,6 +132,7 @@ fronts_freed number at p nodes posts post is live most h = record {
             let front : y.front ≡ x.0.front = x.3 in
             let less : x.0.front ≤ post.front = before i x.0 x.1 (sym x.2 ∙ e) in
             omega arith
+
         there : (y.node ≡ post.node → ⊥) → y.front < z.after
         there other =
             let not_p : i ≡ p → ⊥ = λ e. other (x.2 ∙ ap (λ (u : Post). u.node) (at_one posts p x.0 post (subst (λ (k : ℕ). IsAt posts k x.0) e x.1) is)) in
@@ -146,8 +149,10 @@ fronts_dead at p nodes posts post is dead h = record {
   where
     later : List Post
     later = changed (ended_by at) posts p
+
     like : ArePostsOf posts later
     like = of_changed (ended_by at) posts p (λ x. refl) (λ x. refl) (still_dead at)
+
     ended : (i : ℕ) (y : Post) (z : Node) → IsAt later i y → is_live y ≡ false → IsAt nodes y.node z → is_open z ≡ true → y.front < z.after
     ended i y z at_y gone at_z stands = by (at_changed (ended_by at) posts p i y at_y)
       where
@@ -178,13 +183,16 @@ fronts_posted d t number front point leaf may lives h = record { rise = rise; en
   where
     new : Post
     new = posted_point d t.entries number front point leaf
+
     later : List Post
     later = t.posts ++ new ∷ []
+
     -- no post of the node is live
     dead : (i : ℕ) (a : Post) → IsAt t.posts i a → a.node ≡ number → is_live a ≡ true → ⊥
     dead i a at_a same live =
         let q : HasLivePost t.nodes a.node i = lives.of_post i a at_a live in
         none_some i (sym may.waits.unposted ∙ ap (λ (x : Node). x.live) (at_one t.nodes number may.node q.node may.waits.is_node (subst (λ (k : ℕ). IsAt t.nodes k q.node) same q.is_node)) ∙ q.live)
+
     below_new : (i : ℕ) (a : Post) → IsAt t.posts i a → a.node ≡ number → a.front < front
     below_new i a at_a same = by (is_live a) refl
       where
@@ -195,6 +203,7 @@ fronts_posted d t number front point leaf may lives h = record { rise = rise; en
             let least : may.node.after ≤ least_front d (mode_of t) may.node = least_after d (mode_of t) may.node in
             let most : least_front d (mode_of t) may.node ≤ front = may.front_is.at_least in
             omega arith
+
     rise : (i j : ℕ) (a b : Post) → IsAt later i a → IsAt later j b → i < j → a.node ≡ b.node → a.front < b.front
     rise i j a b at_a at_b below same = by (at_more t.posts new i a at_a) (at_more t.posts new j b at_b)
       where
@@ -209,6 +218,7 @@ fronts_posted d t number front point leaf may lives h = record { rise = rise; en
             let end : i ≡ length t.posts = g.1 in
             let end_too : j ≡ length t.posts = k.1 in
             absurd (omega arith)
+
     ended : (i : ℕ) (y : Post) (z : Node) → IsAt later i y → is_live y ≡ false → IsAt (changed (posted_by (length t.posts)) t.nodes number) y.node z → is_open z ≡ true → y.front < z.after
     ended i y z at_y gone at_z stands = by (at_more t.posts new i y at_y) (at_changed (posted_by (length t.posts)) t.nodes number y.node z at_z)
       where
@@ -219,6 +229,7 @@ fronts_posted d t number front point leaf may lives h = record { rise = rise; en
             let less : y.front < x.after = h.ended i y x g gone at_x (ap is_open (sym e.1) ∙ stands) in
             omega arith
         by (inr g) x = absurd (false_true (sym gone ∙ ap is_live (sym g.0)))
+
     last : (i j : ℕ) (a b : Post) → IsAt later i a → is_live a ≡ true → IsAt later j b → a.node ≡ b.node → j ≤ i
     last i j a b at_a live at_b same = by (at_more t.posts new i a at_a) (at_more t.posts new j b at_b)
       where
@@ -254,23 +265,29 @@ fronts_closed d t number w may posts lives h = record {
   where
     f : Node → Node
     f = closed_by w t.entries (length t.nodes)
+
     sides : List Node
     sides = sides_opened d (length t.cuts) w (slice_get t.nodes number)
+
     later : List Post
     later = changed_at (ended_by t.entries) t.posts (live_of (slice_get t.nodes number))
+
     like : ArePostsOf t.posts later
     like = of_ended t.entries t.posts (live_of (slice_get t.nodes number))
+
     -- of a node that stays open nothing ends
     ended : (i : ℕ) (y : Post) (z : Node) → IsAt later i y → is_live y ≡ false → IsAt (changed f t.nodes number ++ sides) y.node z → is_open z ≡ true → y.front < z.after
     ended i y z at_y gone at_z stands = by (at_either (changed f t.nodes number) sides y.node z at_z)
       where
         x : (x : Post) × IsAt t.posts i x × (y.node ≡ x.node) × (y.front ≡ x.front) × (is_live y ≡ true → is_live x ≡ true)
         x = like i y at_y
+
         -- the node is not the closed one
         other : slice_get (changed f t.nodes number) y.node ≡ Some z → y.node ≡ number → ⊥
         other is e =
             let b : (n : Node) × (slice_get t.nodes number ≡ Some n) × (z ≡ f n) = before_changed f t.nodes number z (subst (λ (k : ℕ). slice_get (changed f t.nodes number) k ≡ Some z) e is) in
             false_true (ap is_open (sym b.2) ∙ stands)
+
         by : (slice_get (changed f t.nodes number) y.node ≡ Some z) ⊎ ((j : ℕ) × (y.node ≡ length (changed f t.nodes number) + j) × (slice_get sides j ≡ Some z)) → y.front < z.after
         by (inl is) =
             let node : IsAt t.nodes x.0.node z = subst (λ (k : ℕ). IsAt t.nodes k z) x.2 (sym (changed_there f t.nodes number y.node (other is)) ∙ is) in

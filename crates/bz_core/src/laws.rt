@@ -78,8 +78,8 @@ pub fn rays_are_true()
     ensures { RaysAreTrue }
 {}
 
-/// Where no node is open there is a tree below the first one, and with it the cuts and the best post's parts show what a
-/// certificate has to show, without a wide sum in the cuts or the leaves.
+/// Where no node is open there is a tree below the first one. With it, the pool's cuts and the best post's parts, the
+/// certificate of the search passes and fits, whichever its verdict.
 pub fn certificates_are_right()
     ensures { CertificatesAreRight }
 {}
