@@ -5,7 +5,13 @@ use Rattle.std.proofs.lemmas.List.{take-append-drop}
 use Rattle.std.proofs.lemmas.Option.{slice_get_within}
 use Rattle.std.specs.Prelude.{Option, Some, None, false, drop, is_none, take}
 use Rattle.std.specs.List.{AllByRecursion, enumerate_from, list_any}
-use Rattle.bz_model.specs.PartPoints.{BlockHolds}
+use Rattle.bz_model.specs.declared.Parts.{Parts}
+use Rattle.bz_model.specs.Parting.{inequalities_of, integers_of}
+use Rattle.bz_model.specs.PartPoints.{BlockHolds, HasPointShape}
+use Rattle.bz_model.specs.PointFits.{FitsBlock, FitsCost, FitsInBlock, FitsInMaster, FitsPoint, FitsStated}
+use Rattle.bz_model.proofs.MeetingParts.{all_then}
+use Rattle.bz_cut.specs.Fits.{FitsCut}
+use Rattle.bz_core.specs.declared.state.FallingRay.{FallingRay}
 use Rattle.bz_model.specs.Splits.{Decomposition}
 use Rattle.bz_cut.specs.declared.Cut.{Cut}
 use Rattle.bz_cut.specs.declared.Mode.{Mode}
@@ -15,7 +21,14 @@ use Rattle.bz_tree.specs.Integers.{integer_at}
 use Rattle.bz_tree.specs.Leaves.{LeafHolds}
 use Rattle.bz_tree.specs.TreeFits.{FitsLeaf, FitsTree}
 use Rattle.bz_tree.specs.Trees.{EachLeaf, HoldsOver, IsEmpty, IsSplitOf, Reaches, Tree, preorder, with_lower}
-use Rattle.bz_tree.specs.Verdicts.{PassesInfeasible, PassesOptimal}
+use Rattle.bz_tree.specs.Verdicts.{PassesInfeasible, PassesOptimal, PassesUnbounded}
+use Rattle.bz_tree.specs.Integers.{IntegerHolds}
+use Rattle.bz_cert.specs.declared.records.Certificate.{Certificate}
+use Rattle.bz_cert.specs.declared.records.Verdict.{Verdict}
+use Rattle.bz_cert.specs.declared.records.Verdict.TheVariants as verdict
+use Rattle.bz_cert.specs.Fits.{Fits, FitsAs, FitsBound, FitsOptimal, FitsUnbounded}
+use Rattle.bz_cert.specs.Passing.{Passes, PassesAs}
+use Rattle.bz_event.proofs.PlacedRays.{floor_ray_falls}
 use Rattle.bz_tree.proofs.MoreCuts.{leaves_keep}
 use Rattle.bz_pass.proofs.PointsOfParts.{AreFeasible}
 use Rattle.bz_event.specs.declared.events.How.{How}
@@ -25,7 +38,7 @@ use Rattle.bz_core.specs.declared.state.Closing.{Closing}
 use Rattle.bz_core.specs.declared.state.Node.{Node}
 use Rattle.bz_core.specs.declared.state.Post.{Post}
 use Rattle.bz_core.specs.declared.state.Region.{Region}
-use Rattle.bz_core.specs.Certificates.{CertificatesAreRight, IsForkAt, IsTipAt, IsTreeAt}
+use Rattle.bz_core.specs.Certificates.{CertificatesAreRight, IsForkAt, IsInfeasibleCertificate, IsOptimalCertificate, IsTipAt, IsTreeAt, IsUnboundedCertificate, without_etas}
 use Rattle.bz_core.specs.Finished.{completions, parts_of}
 use Rattle.bz_core.specs.Leaves.{IsClosedBy, LeavesReach}
 use Rattle.bz_core.specs.Pools.{IsPoolOf}
@@ -34,11 +47,12 @@ use Rattle.bz_core.specs.States.{State, above, below, box_of, is_open, mode_of}
 use Rattle.bz_core.specs.Steps.{IsAt, IsBest, IsFilled, ReachesBest}
 use Rattle.bz_core.specs.Trees.{HasRegion, IsEnd, IsEndedRight, IsLeafAt, IsSplitAt, IsTree}
 use Rattle.bz_core.proofs.BestSteps.{best_is_filled}
-use Rattle.bz_core.proofs.FinishedSearches.{completed, none_open, post_feasible, post_integers}
+use Rattle.bz_core.proofs.FinishedSearches.{completed, none_open, post_feasible, post_integers, post_shape}
 use Rattle.bz_core.proofs.LeafSteps.{leaves_are_right}
 use Rattle.bz_core.proofs.Lists.{at_one}
 use Rattle.bz_core.proofs.PoolSteps.{pools_are_right}
 use Rattle.bz_core.proofs.PostSteps.{posts_are_right}
+use Rattle.bz_core.proofs.RaySteps.{IsRayOf, ray_is_right}
 use Rattle.bz_core.proofs.TreeSteps.{trees_are_whole}
 
 -- ---- there is a tree
@@ -161,8 +175,24 @@ blocks_hold d t post h filled = completed (λ e. BlockHolds d.model d.part post.
     one_more : (b : ℕ) → suc b ≡ 1 + b
     one_more b = omega arith
 
+-- the fits of a post's completions
+post_fits : (d : Decomposition) (way : Mode) (t : State) (post : Post) → IsPostOf d way t.nodes t.cuts post → IsFilled post → FitsPoint d.model d.part (parts_of post)
+post_fits d way t post h filled = record {
+  master = h.posted.fits;
+  blocks = completed (λ e. FitsBlock d.model d.part post.point e.0 e.1) 1 post.fills filled (λ b fill is. subst (λ (k : ℕ). FitsBlock d.model d.part post.point k fill.y) (one_more b) (h.fills b fill is).fits);
+}
+  where
+    one_more : (b : ℕ) → suc b ≡ 1 + b
+    one_more b = omega arith
+
+costs_fit : (d : Decomposition) (t : State) (post : Post) → IsPostOf d mode.Cost t.nodes t.cuts post → IsFilled post → AllByRecursion (λ e. FitsCost d.model d.part post.point e.0 e.1) (enumerate_from 1 (completions post.fills))
+costs_fit d t post h filled = completed (λ e. FitsCost d.model d.part post.point e.0 e.1) 1 post.fills filled (λ b fill is. subst (λ (k : ℕ). FitsCost d.model d.part post.point k fill.y) (one_more b) (h.fills b fill is).cost.1)
+  where
+    one_more : (b : ℕ) → suc b ≡ 1 + b
+    one_more b = omega arith
+
 pub certificates_are_right : CertificatesAreRight
-certificates_are_right d budget root es t dec r none = record { has_tree = has_tree; infeasible = infeasible; optimal = optimal; cuts_fit = pool.fit; tree_fits = λ tree at. fits_below d root t.cuts t.nodes whole tree 0 root whole.first at }
+certificates_are_right d budget root es t dec r = record { has_tree = has_tree; optimal = optimal; infeasible = infeasible; unbounded = unbounded }
   where
     whole : IsTree d root t.cuts t.nodes
     whole = trees_are_whole d budget root es t r
@@ -173,11 +203,29 @@ certificates_are_right d budget root es t dec r none = record { has_tree = has_t
     leaves : LeavesReach d t
     leaves = leaves_are_right d budget root es t r
 
-    has_tree : (tree : Tree) × IsTreeAt t.nodes 0 tree
-    has_tree = tree_below d root t.cuts t.nodes whole none (length t.nodes) 0 (omega arith) (slice_get_within t.nodes 0 whole.first.node whole.first.is_node)
+    filled : (post : Post) → IsBest t post → IsFilled post
+    filled post best =
+        let b : (x : Post) × IsAt t.posts best.0 x × IsFilled x = best_is_filled d budget root es t r best.0 best.1 in
+        subst IsFilled (at_one t.posts best.0 b.0 post b.1 best.2) b.2
 
-    infeasible : t.best ≡ None → (tree : Tree) → IsTreeAt t.nodes 0 tree → PassesInfeasible d.model d.part t.cuts (preorder tree)
-    infeasible no_best tree at = record {
+    right : (post : Post) → IsBest t post → IsPostOf d (mode_of t) t.nodes t.cuts post
+    right post best = posts_are_right d budget root es t r best.0 post best.2
+
+    has_tree : list_any is_open t.nodes ≡ false → (tree : Tree) × IsTreeAt t.nodes 0 tree
+    has_tree none = tree_below d root t.cuts t.nodes whole none (length t.nodes) 0 (omega arith) (slice_get_within t.nodes 0 whole.first.node whole.first.is_node)
+
+    bound : (tree : Tree) (c : Certificate) → IsTreeAt t.nodes 0 tree → c.cuts ≡ t.cuts → c.tree ≡ preorder tree → FitsBound d.model d.part c
+    bound tree c at cuts tree_is = record {
+      cuts = subst (AllByRecursion (FitsCut d.model d.part)) (sym cuts) pool.fit;
+      root = box_of root;
+      is_root = r.root_is.is_root;
+      tree = tree;
+      is_tree = tree_is;
+      leaves = subst (λ (cs : List Cut). FitsTree d.model d.part cs (box_of root) tree) (sym cuts) (fits_below d root t.cuts t.nodes whole tree 0 root whole.first at);
+    }
+
+    empty_tree : t.best ≡ None → (tree : Tree) → IsTreeAt t.nodes 0 tree → PassesInfeasible d.model d.part t.cuts (preorder tree)
+    empty_tree no_best tree at = record {
       cuts = pool.valid;
       root = box_of root;
       is_root = r.root_is.is_root;
@@ -187,19 +235,16 @@ certificates_are_right d budget root es t dec r none = record { has_tree = has_t
       empty = each_below t.nodes IsEmpty (λ leaf c. empty_without d t leaf no_best (leaves leaf c)) tree 0 at;
     }
 
-    optimal : mode_of t ≡ mode.Cost → (post : Post) → IsBest t post → (tree : Tree) → IsTreeAt t.nodes 0 tree → PassesOptimal d.model d.part (parts_of post) (value_of d.model d.part post.point) t.cuts (preorder tree)
-    optimal cost post best tree at =
-        let b : (x : Post) × IsAt t.posts best.0 x × IsFilled x = best_is_filled d budget root es t r best.0 best.1 in
-        let filled : IsFilled post = subst IsFilled (at_one t.posts best.0 b.0 post b.1 best.2) b.2 in
-        let h : IsPostOf d (mode_of t) t.nodes t.cuts post = posts_are_right d budget root es t r best.0 post best.2 in
-        let parts : AreFeasible d.model d.part (parts_of post) = post_feasible d root (mode_of t) t post whole r.root_is.is_root h filled in
+    best_tree : mode_of t ≡ mode.Cost → (post : Post) → IsBest t post → (tree : Tree) → IsTreeAt t.nodes 0 tree → PassesOptimal d.model d.part (parts_of post) (value_of d.model d.part post.point) t.cuts (preorder tree)
+    best_tree cost post best tree at =
+        let h : IsPostOf d (mode_of t) t.nodes t.cuts post = right post best in
         record {
-          shape = parts.shape;
+          shape = record { point = post_shape d (mode_of t) t.nodes post t.cuts h (filled post best); eta = h.posted.shape.eta };
           master = h.posted.rows;
           root = box_of root;
           is_root = r.root_is.is_root;
           integers = post_integers d root (mode_of t) t post whole h;
-          blocks = blocks_hold d t post (subst (λ (w : Mode). IsPostOf d w t.nodes t.cuts post) cost h) filled;
+          blocks = blocks_hold d t post (subst (λ (w : Mode). IsPostOf d w t.nodes t.cuts post) cost h) (filled post best);
           value = refl;
           cuts = pool.valid;
           tree = tree;
@@ -207,3 +252,79 @@ certificates_are_right d budget root es t dec r none = record { has_tree = has_t
           holds = holds_below d root t.cuts t.nodes whole tree 0 root whole.first at;
           bounds = each_below t.nodes (Reaches (value_of d.model d.part post.point) post.point.den) (λ leaf c. reaches_value d t leaf post best (leaves leaf c)) tree 0 at;
         }
+
+    infeasible : t.best ≡ None → (tree : Tree) → IsTreeAt t.nodes 0 tree → (c : Certificate) → IsInfeasibleCertificate t tree c → Passes d.model d.part c × Fits d.model d.part c
+    infeasible no_best tree at c is = (
+      record { as_its_verdict = subst (λ (v : Verdict). PassesAs d.model d.part c v c.parts) (sym is.verdict) (subst (λ (cs : List Cut). PassesInfeasible d.model d.part cs c.tree) (sym is.cuts) (subst (PassesInfeasible d.model d.part t.cuts) (sym is.tree_is) (empty_tree no_best tree at))) },
+      record { as_its_verdict = subst (λ (v : Verdict). FitsAs d.model d.part c v c.parts) (sym is.verdict) (bound tree c at is.cuts is.tree_is) },
+    )
+
+    optimal : mode_of t ≡ mode.Cost → (post : Post) → IsBest t post → (tree : Tree) → IsTreeAt t.nodes 0 tree → (c : Certificate) → IsOptimalCertificate d t post tree c → Passes d.model d.part c × Fits d.model d.part c
+    optimal cost post best tree at c is = (
+      record { as_its_verdict = subst (λ (v : Verdict). PassesAs d.model d.part c v c.parts) (sym is.verdict) (subst (PassesAs d.model d.part c verdict.Optimal) (sym is.parts) passes) },
+      record { as_its_verdict = subst (λ (v : Verdict). FitsAs d.model d.part c v c.parts) (sym is.verdict) (subst (FitsAs d.model d.part c verdict.Optimal) (sym is.parts) fits) },
+    )
+      where
+        h : IsPostOf d mode.Cost t.nodes t.cuts post
+        h = subst (λ (w : Mode). IsPostOf d w t.nodes t.cuts post) cost (right post best)
+
+        passes : PassesOptimal d.model d.part (parts_of post) c.value c.cuts c.tree
+        passes = subst (λ (v : ℤ). PassesOptimal d.model d.part (parts_of post) v c.cuts c.tree) (sym is.value)
+            (subst (λ (cs : List Cut). PassesOptimal d.model d.part (parts_of post) (value_of d.model d.part post.point) cs c.tree) (sym is.cuts)
+            (subst (PassesOptimal d.model d.part (parts_of post) (value_of d.model d.part post.point) t.cuts) (sym is.tree_is) (best_tree cost post best tree at)))
+
+        fits : FitsOptimal d.model d.part (parts_of post) c
+        fits = record {
+          point = post_fits d mode.Cost t post h (filled post best);
+          costs = costs_fit d t post h (filled post best);
+          value = h.posted.fits_value.0;
+          stated = subst (λ (v : ℤ). FitsStated d.model v post.point.den) (sym is.value) h.posted.fits_value.1;
+          bound = bound tree c at is.cuts is.tree_is;
+        }
+
+    unbounded : (post : Post) → IsBest t post → (ray : FallingRay) → t.ray ≡ Some ray → (c : Certificate) → IsUnboundedCertificate d t post ray c → Passes d.model d.part c × Fits d.model d.part c
+    unbounded post best ray ray_is c is = (
+      record { as_its_verdict = subst (λ (v : Verdict). PassesAs d.model d.part c v c.parts) (sym is.verdict) (subst (PassesAs d.model d.part c verdict.Unbounded) (sym is.parts) passes) },
+      record { as_its_verdict = subst (λ (v : Verdict). FitsAs d.model d.part c v c.parts) (sym is.verdict) (subst (FitsAs d.model d.part c verdict.Unbounded) (sym is.parts) fits) },
+    )
+      where
+        h : IsPostOf d (mode_of t) t.nodes t.cuts post
+        h = right post best
+
+        own : IsRayOf d ray
+        own = ray_is_right d budget root es t r ray ray_is
+
+        full : AreFeasible d.model d.part (parts_of post)
+        full = post_feasible d root (mode_of t) t post whole r.root_is.is_root h (filled post best)
+
+        shape : HasPointShape d.model d.part (parts_of post)
+        shape = post_shape d (mode_of t) t.nodes post t.cuts h (filled post best)
+
+        parts : Parts
+        parts = record { master = without_etas post.point; blocks = completions post.fills }
+
+        passes : PassesUnbounded d.model d.part parts c.ray
+        passes = subst (PassesUnbounded d.model d.part parts) (sym is.ray_is) (record {
+          shape = record { master = record { den = shape.master.den; x = shape.master.x }; blocks = shape.blocks; each = shape.each };
+          master = h.posted.rows;
+          root = box_of root;
+          is_root = r.root_is.is_root;
+          integers = all_then (IntegerHolds d.part (box_of root) post.point) (IntegerHolds d.part (box_of root) (without_etas post.point)) (enumerate_from 0 (integers_of d.model)) (post_integers d root (mode_of t) t post whole h)
+              (λ e i. record { whole = i.whole; at_least = i.at_least; at_most = i.at_most });
+          blocks = full.rows;
+          falls = floor_ray_falls d.model d.part ray.block ray.d dec own.first own.last own.is_ray;
+        })
+
+        point : FitsPoint d.model d.part (parts_of post)
+        point = post_fits d (mode_of t) t post h (filled post best)
+
+        fits : FitsUnbounded d.model d.part parts c.ray
+        fits = subst (FitsUnbounded d.model d.part parts) (sym is.ray_is) (record {
+          point = record {
+            master = all_then (FitsInMaster post.point) (FitsInMaster (without_etas post.point)) (inequalities_of d.model d.part 0) point.master (λ i f. record { sum = f.sum; side = f.side });
+            blocks = all_then (λ e. FitsBlock d.model d.part post.point e.0 e.1) (λ e. FitsBlock d.model d.part (without_etas post.point) e.0 e.1) (enumerate_from 1 (completions post.fills)) point.blocks
+                (λ e f. record { scale = f.scale; rows = all_then (FitsInBlock post.point e.1) (FitsInBlock (without_etas post.point) e.1) (inequalities_of d.model d.part e.0) f.rows (λ i g. record { in_master = g.in_master; in_block = g.in_block; together = g.together; side = g.side }) });
+          };
+          rows = own.is_ray.fits.rows;
+          cost = own.is_ray.fits.cost;
+        })

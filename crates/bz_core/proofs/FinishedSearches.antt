@@ -85,7 +85,7 @@ integer_wider part root region point e den inside h = record {
   at_most = le_trans _ (coordinate region.upper e.0 *ℤ point.den) (coordinate root.upper e.0 *ℤ point.den) h.at_most (mul_le_right (coordinate region.upper e.0) (coordinate root.upper e.0) point.den (omega (arith, ints)) (inside.upper e.0));
 }
 
-post_shape : (d : Decomposition) (way : Mode) (nodes : List Node) (post : Post) (cuts : _) → IsPostOf d way nodes cuts post → IsFilled post → HasPointShape d.model d.part (parts_of post)
+pub post_shape : (d : Decomposition) (way : Mode) (nodes : List Node) (post : Post) (cuts : _) → IsPostOf d way nodes cuts post → IsFilled post → HasPointShape d.model d.part (parts_of post)
 post_shape d way nodes post cuts h filled = record {
   master = record { den = h.posted.shape.den; x = h.posted.shape.x };
   blocks = length-completions post.fills filled ∙ h.places;

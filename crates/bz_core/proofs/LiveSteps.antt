@@ -22,7 +22,7 @@ use Rattle.bz_core.proofs.Lists.{at_changed, at_either, at_end, at_kept, at_more
 some_same : (i j : ℕ) → Some i ≡ Some j → i ≡ j
 some_same i j e = cc
 
-none_some : (i : ℕ) → None ≡ Some i → ⊥
+pub none_some : (i : ℕ) → None ≡ Some i → ⊥
 none_some i e = absurd (cc)
 
 -- ---- links that go
@@ -213,7 +213,7 @@ fresh_unposted d cuts (how.Split front basis position value) (Some node) (suc (s
 fresh_unposted d cuts (how.Leaf front leaf) o j z is = absurd (cc)
 
 -- the node that a closing closes is there
-closing_node : (d : Decomposition) (t : State) (number : ℕ) (h : How) → IsClosing d t number h → (node : Node) × IsAt t.nodes number node
+pub closing_node : (d : Decomposition) (t : State) (number : ℕ) (h : How) → IsClosing d t number h → (node : Node) × IsAt t.nodes number node
 closing_node d t number (how.Split front basis position value) may = (may.waiting, may.waits.is_node)
 closing_node d t number (how.Leaf front leaf) may = (may.node, may.is_node)
 

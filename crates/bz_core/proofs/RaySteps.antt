@@ -26,12 +26,12 @@ use Rattle.bz_core.proofs.PostSteps.{posts_are_right}
 use Rattle.bz_core.proofs.TreeSteps.{trees_are_whole}
 
 -- the direction is that of a floor's answer of its block
-record IsRayOf (d : Decomposition) (ray : FallingRay) : Type 0 where
-  first : 0 < ray.block
-  last : ray.block ≤ blocks_of d.part
-  is_ray : IsFloorRay d.model d.part ray.block ray.d
+pub record IsRayOf (d : Decomposition) (ray : FallingRay) : Type 0 where
+  pub first : 0 < ray.block
+  pub last : ray.block ≤ blocks_of d.part
+  pub is_ray : IsFloorRay d.model d.part ray.block ray.d
 
-abbrev RayIsRight : Decomposition → State → Type 0
+abbrev pub RayIsRight : Decomposition → State → Type 0
 RayIsRight d t = (ray : FallingRay) → t.ray ≡ Some ray → IsRayOf d ray
 
 ray_step : (d : Decomposition) (budget : ℕ) (t : State) (e : Event) → MayFollow d budget t e → RayIsRight d t → RayIsRight d (effect d t e)
@@ -55,7 +55,7 @@ ray_step d budget t (event.Incumbent post) may h = h
 ray_step d budget t (event.Close number how) may h = h
 ray_step d budget t (event.Stop reason) may h = h
 
-ray_is_right : (d : Decomposition) (budget : ℕ) (root : Region) (es : List Entry) (t : State) → IsReplay d budget root es t → RayIsRight d t
+pub ray_is_right : (d : Decomposition) (budget : ℕ) (root : Region) (es : List Entry) (t : State) → IsReplay d budget root es t → RayIsRight d t
 ray_is_right d budget root es t r = histories_grow d budget root (λ es u. RayIsRight d u) (λ ray is. absurd (cc))
     (λ before u x replayed step old. ray_step d budget u x.event step.may old) es t r
 

@@ -1,24 +1,28 @@
 -- What a search without an open node has to show: its tree, its cuts, and the parts of the best post.
-use Rattle.std.specs.Prelude.{ℕ, suc, ◌≡◌, ℤ, pos, ◌+ℤ◌, false, List, Some, None}
-use Rattle.std.specs.List.{AllByRecursion, list_any}
+use Rattle.std.specs.Prelude.{ℕ, suc, ◌≡◌, ℤ, pos, ◌+ℤ◌, false, List, [], Some, None}
+use Rattle.std.specs.List.{list_any}
+use Rattle.bz_model.specs.declared.Master.{Master}
 use Rattle.bz_model.specs.Decomposed.{IsDecomposed}
 use Rattle.bz_model.specs.Splits.{Decomposition}
-use Rattle.bz_cut.specs.Fits.{FitsCut}
 use Rattle.bz_cut.specs.declared.Mode.TheVariants as mode
 use Rattle.bz_tree.specs.declared.Leaf.{Leaf}
-use Rattle.bz_tree.specs.TreeFits.{FitsTree}
 use Rattle.bz_tree.specs.Trees.{Tree, preorder}
-use Rattle.bz_tree.specs.Verdicts.{PassesInfeasible, PassesOptimal}
+use Rattle.bz_cert.specs.declared.records.Certificate.{Certificate}
+use Rattle.bz_cert.specs.declared.records.Verdict.TheVariants as verdict
+use Rattle.bz_cert.specs.Fits.{Fits}
+use Rattle.bz_cert.specs.Passing.{Passes}
 use Rattle.bz_event.specs.declared.events.Entry.{Entry}
 use Rattle.bz_event.specs.declared.events.How.TheVariants as how
+use Rattle.bz_event.specs.Floors.{placed}
 use Rattle.bz_event.specs.Nodes.{value_of}
 use Rattle.bz_core.specs.declared.state.Closing.{Closing}
+use Rattle.bz_core.specs.declared.state.FallingRay.{FallingRay}
 use Rattle.bz_core.specs.declared.state.Node.{Node}
 use Rattle.bz_core.specs.declared.state.Post.{Post}
 use Rattle.bz_core.specs.declared.state.Region.{Region}
-use Rattle.bz_core.specs.Finished.{parts_of}
+use Rattle.bz_core.specs.Finished.{completions, parts_of}
 use Rattle.bz_core.specs.Histories.{IsReplay}
-use Rattle.bz_core.specs.States.{State, box_of, is_open, mode_of}
+use Rattle.bz_core.specs.States.{State, is_open, mode_of}
 use Rattle.bz_core.specs.Steps.{IsAt, IsBest}
 
 -- node number n is closed by the leaf
@@ -48,19 +52,51 @@ IsTreeAt nodes n (Tree.tip leaf) = IsTipAt nodes n leaf
 IsTreeAt nodes n (Tree.fork position left right below above) =
     (kids : ℕ) × IsForkAt nodes n position left right kids × IsTreeAt nodes kids below × IsTreeAt nodes (suc kids) above
 
--- There is a tree below the first node. With it, the cuts of the pool and the parts of the best post, what a certificate of
--- an optimum has to show is shown, or without a best post what one has to show of a model without a feasible point; and no
--- sum of the cuts and of the tree's leaves is wide that tells so.
-pub record CertificateIsRight (d : Decomposition) (root : Region) (t : State) : Type 0 where
-  pub has_tree : (tree : Tree) × IsTreeAt t.nodes 0 tree
-  pub infeasible : t.best ≡ None → (tree : Tree) → IsTreeAt t.nodes 0 tree →
-      PassesInfeasible d.model d.part t.cuts (preorder tree)
+-- ---- the certificate of a search without an open node, by its verdict
+-- it has the best post's parts and value, the cuts of the pool and the tree
+pub record IsOptimalCertificate (d : Decomposition) (t : State) (post : Post) (tree : Tree) (c : Certificate) : Type 0 where
+  pub verdict : c.verdict ≡ verdict.Optimal
+  pub parts : c.parts ≡ Some (parts_of post)
+  pub value : c.value ≡ value_of d.model d.part post.point
+  pub cuts : c.cuts ≡ t.cuts
+  pub tree_is : c.tree ≡ preorder tree
+
+-- it has the cuts of the pool and the tree
+pub record IsInfeasibleCertificate (t : State) (tree : Tree) (c : Certificate) : Type 0 where
+  pub verdict : c.verdict ≡ verdict.Infeasible
+  pub cuts : c.cuts ≡ t.cuts
+  pub tree_is : c.tree ≡ preorder tree
+
+-- the point of a post without its etas
+abbrev pub without_etas : Master → Master
+without_etas point = record {
+  den = point.den;
+  x = point.x;
+  eta = [];
+  den_narrow = point.den_narrow;
+  x_narrow = point.x_narrow;
+  eta_narrow = tt;
+}
+
+-- it has the best post's parts without etas, and the direction over the model's columns
+pub record IsUnboundedCertificate (d : Decomposition) (t : State) (post : Post) (ray : FallingRay) (c : Certificate)
+    : Type 0 where
+  pub verdict : c.verdict ≡ verdict.Unbounded
+  pub parts : c.parts ≡ Some (record { master = without_etas post.point; blocks = completions post.fills })
+  pub ray_is : c.ray ≡ placed d.part ray.block ray.d
+
+-- There is a tree below the first node where no node is open. Each certificate of the search, by its verdict, passes and
+-- fits.
+pub record CertificatesPass (d : Decomposition) (t : State) : Type 0 where
+  pub has_tree : list_any is_open t.nodes ≡ false → (tree : Tree) × IsTreeAt t.nodes 0 tree
   pub optimal : mode_of t ≡ mode.Cost → (post : Post) → IsBest t post → (tree : Tree) → IsTreeAt t.nodes 0 tree →
-      PassesOptimal d.model d.part (parts_of post) (value_of d.model d.part post.point) t.cuts (preorder tree)
-  pub cuts_fit : AllByRecursion (FitsCut d.model d.part) t.cuts
-  pub tree_fits : (tree : Tree) → IsTreeAt t.nodes 0 tree → FitsTree d.model d.part t.cuts (box_of root) tree
+      (c : Certificate) → IsOptimalCertificate d t post tree c → Passes d.model d.part c × Fits d.model d.part c
+  pub infeasible : t.best ≡ None → (tree : Tree) → IsTreeAt t.nodes 0 tree →
+      (c : Certificate) → IsInfeasibleCertificate t tree c → Passes d.model d.part c × Fits d.model d.part c
+  pub unbounded : (post : Post) → IsBest t post → (ray : FallingRay) → t.ray ≡ Some ray →
+      (c : Certificate) → IsUnboundedCertificate d t post ray c → Passes d.model d.part c × Fits d.model d.part c
 
 abbrev pub CertificatesAreRight : Type 0
 CertificatesAreRight =
     (d : Decomposition) (budget : ℕ) (root : Region) (es : List Entry) (t : State) → IsDecomposed d.model d.part →
-    IsReplay d budget root es t → list_any is_open t.nodes ≡ false → CertificateIsRight d root t
+    IsReplay d budget root es t → CertificatesPass d t

@@ -2,6 +2,7 @@
 ghost use Rattle.bz_core.specs.Certificates.{CertificatesAreRight};
 ghost use Rattle.bz_core.specs.Covers.{NothingBetterIsLost};
 ghost use Rattle.bz_core.specs.Finished.{FinishedSearchesAreTrue, RaysAreTrue};
+ghost use Rattle.bz_core.specs.Fronts.{FrontsRise};
 ghost use Rattle.bz_core.specs.Histories.{CountsRise};
 ghost use Rattle.bz_core.specs.Leaves.{LeavesAreRight};
 ghost use Rattle.bz_core.specs.Lives.{LivesAreRight};
@@ -45,6 +46,11 @@ pub fn lives_are_right()
     ensures { LivesAreRight }
 {}
 
+/// The fronts of a node's posts rise, and a live post is the last of its node.
+pub fn fronts_rise()
+    ensures { FrontsRise }
+{}
+
 /// The nodes that are there, with those that may still come, are at most twice the whole points of the root's box, less one.
 pub fn nodes_are_few()
     ensures { NodesAreFew }
@@ -72,8 +78,8 @@ pub fn rays_are_true()
     ensures { RaysAreTrue }
 {}
 
-/// Where no node is open there is a tree below the first one, and with it the cuts and the best post's parts show what a
-/// certificate has to show, without a wide sum in the cuts or the leaves.
+/// Where no node is open there is a tree below the first one. With it, the pool's cuts and the best post's parts, the
+/// certificate of the search passes and fits, whichever its verdict.
 pub fn certificates_are_right()
     ensures { CertificatesAreRight }
 {}
