@@ -77,7 +77,7 @@ incumbent_reached d t number may running posts h leaf c = by (h leaf c)
 
 -- ---- a node is closed
 -- sides that a closing opens are open
-fresh_open : (d : Decomposition) (cuts : ℕ) (h : How) (o : Option Node) (j : ℕ) (z : Node) → slice_get (sides_opened d cuts h o) j ≡ Some z → z.closing ≡ None
+pub fresh_open : (d : Decomposition) (cuts : ℕ) (h : How) (o : Option Node) (j : ℕ) (z : Node) → slice_get (sides_opened d cuts h o) j ≡ Some z → z.closing ≡ None
 fresh_open d cuts (how.Split front basis position value) None j z is = absurd (cc)
 fresh_open d cuts (how.Split front basis position value) (Some node) zero z is = cc
 fresh_open d cuts (how.Split front basis position value) (Some node) (suc zero) z is = cc

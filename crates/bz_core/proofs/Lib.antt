@@ -8,6 +8,7 @@ pub mod LeafSteps
 pub mod Lists
 pub mod LiveSteps
 pub mod MeasureSteps
+pub mod PlaceSteps
 pub mod PoolSteps
 pub mod PostSteps
 pub mod RaySteps

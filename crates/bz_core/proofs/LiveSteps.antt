@@ -19,7 +19,7 @@ use Rattle.bz_core.specs.Steps.{IsAt, IsClosing, IsPostStep, MayFollow}
 use Rattle.bz_core.proofs.Growing.{histories_grow}
 use Rattle.bz_core.proofs.Lists.{at_changed, at_either, at_end, at_kept, at_more, at_one, before_changed, changed_here, changed_item, changed_there}
 
-some_same : (i j : ℕ) → Some i ≡ Some j → i ≡ j
+pub some_same : (i j : ℕ) → Some i ≡ Some j → i ≡ j
 some_same i j e = cc
 
 pub none_some : (i : ℕ) → None ≡ Some i → ⊥

@@ -122,7 +122,7 @@ replicate_has zero i x y h = absurd (cc)
 replicate_has (suc n) zero x y h = cc
 replicate_has (suc n) (suc i) x y h = replicate_has n i x y h
 
-nothing_filled : (n b : ℕ) (fill : Filled) → slice_get (replicate n None) b ≡ Some (Some fill) → ⊥
+pub nothing_filled : (n b : ℕ) (fill : Filled) → slice_get (replicate n None) b ≡ Some (Some fill) → ⊥
 nothing_filled n b fill h =
     let same : None ≡ Some fill = replicate_has n b None (Some fill) h in
     absurd (cc)
@@ -141,7 +141,7 @@ new_post d t number front point leaf may =
     }
 
 -- ---- a fill
-at_set : {X : Type 0} (xs : List X) (i k : ℕ) (v y : X) → slice_get (set xs i v) k ≡ Some y → (slice_get xs k ≡ Some y) ⊎ ((k ≡ i) × (v ≡ y))
+pub at_set : {X : Type 0} (xs : List X) (i k : ℕ) (v y : X) → slice_get (set xs i v) k ≡ Some y → (slice_get xs k ≡ Some y) ⊎ ((k ≡ i) × (v ≡ y))
 at_set [] i k v y h = absurd (cc)
 at_set (x ∷ xs) zero zero v y h =
     let same : v ≡ y = cc in

@@ -7,6 +7,7 @@ ghost use Rattle.bz_core.specs.Histories.{CountsRise};
 ghost use Rattle.bz_core.specs.Leaves.{LeavesAreRight};
 ghost use Rattle.bz_core.specs.Lives.{LivesAreRight};
 ghost use Rattle.bz_core.specs.Measures.{NodesAreFew};
+ghost use Rattle.bz_core.specs.Places.{PlacesAreRight};
 ghost use Rattle.bz_core.specs.Pools.{PoolsAreRight};
 ghost use Rattle.bz_core.specs.Posts.{PostsAreRight};
 ghost use Rattle.bz_core.specs.Sizes.{SizesAreRight};
@@ -59,6 +60,11 @@ pub fn nodes_are_few()
 /// The units are those of the closed nodes and of the appended cuts, and never more than the budget.
 pub fn sizes_are_right()
     ensures { SizesAreRight }
+{}
+
+/// Each place in the history that the state keeps is that of the entry which it speaks of.
+pub fn places_are_right()
+    ensures { PlacesAreRight }
 {}
 
 /// Nothing better is lost: each feasible point that is better than the best post so far, or each where there is none, lies in
