@@ -1,5 +1,0 @@
-use Rattle.bz_core.proofs.CertificateTrees.{certificates_are_right}
-use Rattle.bz_core.proofs.laws.certificates_are_right.Goals as goal
-
-pub returns : goal.returns
-returns c = certificates_are_right

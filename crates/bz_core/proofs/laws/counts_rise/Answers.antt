@@ -1,5 +1,0 @@
-use Rattle.bz_core.proofs.Stamps.{counts_rise}
-use Rattle.bz_core.proofs.laws.counts_rise.Goals as goal
-
-pub returns : goal.returns
-returns c = counts_rise

@@ -1,5 +1,0 @@
-use Rattle.bz_core.proofs.FrontSteps.{fronts_rise}
-use Rattle.bz_core.proofs.laws.fronts_rise.Goals as goal
-
-pub returns : goal.returns
-returns c = fronts_rise

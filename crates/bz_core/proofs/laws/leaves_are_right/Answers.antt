@@ -1,5 +1,0 @@
-use Rattle.bz_core.proofs.LeafSteps.{leaves_are_right}
-use Rattle.bz_core.proofs.laws.leaves_are_right.Goals as goal
-
-pub returns : goal.returns
-returns c = leaves_are_right

@@ -1,5 +1,0 @@
-use Rattle.bz_core.proofs.LiveSteps.{lives_are_right}
-use Rattle.bz_core.proofs.laws.lives_are_right.Goals as goal
-
-pub returns : goal.returns
-returns c = lives_are_right

@@ -1,5 +1,0 @@
-use Rattle.bz_core.proofs.MeasureSteps.{nodes_are_few}
-use Rattle.bz_core.proofs.laws.nodes_are_few.Goals as goal
-
-pub returns : goal.returns
-returns c = nodes_are_few

@@ -1,5 +1,0 @@
-use Rattle.bz_core.proofs.CoverSteps.{nothing_better_is_lost}
-use Rattle.bz_core.proofs.laws.nothing_better_is_lost.Goals as goal
-
-pub returns : goal.returns
-returns c = nothing_better_is_lost

@@ -1,5 +1,0 @@
-use Rattle.bz_core.proofs.PlaceSteps.{places_are_right}
-use Rattle.bz_core.proofs.laws.places_are_right.Goals as goal
-
-pub returns : goal.returns
-returns c = places_are_right

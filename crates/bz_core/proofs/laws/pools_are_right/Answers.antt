@@ -1,5 +1,0 @@
-use Rattle.bz_core.proofs.PoolSteps.{pools_are_right}
-use Rattle.bz_core.proofs.laws.pools_are_right.Goals as goal
-
-pub returns : goal.returns
-returns c = pools_are_right

@@ -1,5 +1,0 @@
-use Rattle.bz_core.proofs.PostSteps.{posts_are_right}
-use Rattle.bz_core.proofs.laws.posts_are_right.Goals as goal
-
-pub returns : goal.returns
-returns c = posts_are_right

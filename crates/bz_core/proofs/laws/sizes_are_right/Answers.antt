@@ -1,5 +1,0 @@
-use Rattle.bz_core.proofs.SizeSteps.{sizes_are_right}
-use Rattle.bz_core.proofs.laws.sizes_are_right.Goals as goal
-
-pub returns : goal.returns
-returns c = sizes_are_right

@@ -1,5 +1,0 @@
-use Rattle.bz_core.proofs.TreeSteps.{trees_are_whole}
-use Rattle.bz_core.proofs.laws.trees_are_whole.Goals as goal
-
-pub returns : goal.returns
-returns c = trees_are_whole

@@ -1,0 +1,91 @@
+//! What is true of every legal history.
+ghost use Rattle.bz_history.specs.Certificates.{CertificatesAreRight};
+ghost use Rattle.bz_history.specs.Covers.{NothingBetterIsLost};
+ghost use Rattle.bz_history.specs.Finished.{FinishedSearchesAreTrue, RaysAreTrue};
+ghost use Rattle.bz_history.specs.Fronts.{FrontsRise};
+ghost use Rattle.bz_history.specs.Histories.{CountsRise};
+ghost use Rattle.bz_history.specs.Leaves.{LeavesAreRight};
+ghost use Rattle.bz_history.specs.Lives.{LivesAreRight};
+ghost use Rattle.bz_history.specs.Measures.{NodesAreFew};
+ghost use Rattle.bz_history.specs.Places.{PlacesAreRight};
+ghost use Rattle.bz_history.specs.Pools.{PoolsAreRight};
+ghost use Rattle.bz_history.specs.Posts.{PostsAreRight};
+ghost use Rattle.bz_history.specs.Sizes.{SizesAreRight};
+ghost use Rattle.bz_history.specs.Trees.{TreesAreWhole};
+
+/// The counts of each worker's stamps are 0, 1, 2 and on, each once and in order.
+pub fn counts_rise()
+    ensures { CountsRise }
+{}
+
+/// The pool is the cuts of the floors and of the appended cuts, in their order: each is valid, with no sum wide that tells
+/// so, and no two are the same.
+pub fn pools_are_right()
+    ensures { PoolsAreRight }
+{}
+
+/// Each posted point, live or ended, lies in its node's box and meets the cuts of its own front; in mode Cost its leaf bounds
+/// the node by its value; and what fills a block completes it there.
+pub fn posts_are_right()
+    ensures { PostsAreRight }
+{}
+
+/// The nodes are one tree from the box of the whole model: each split has its two sides, and each other closed node a leaf
+/// that holds over its own front.
+pub fn trees_are_whole()
+    ensures { TreesAreWhole }
+{}
+
+/// Each closing leaf is empty, or its bound is no less than the value of the best post now.
+pub fn leaves_are_right()
+    ensures { LeavesAreRight }
+{}
+
+/// The live post of a node is one of its own that nothing has ended, and each such post is the live one of its node, which
+/// is open.
+pub fn lives_are_right()
+    ensures { LivesAreRight }
+{}
+
+/// The fronts of a node's posts rise, and a live post is the last of its node.
+pub fn fronts_rise()
+    ensures { FrontsRise }
+{}
+
+/// The nodes that are there, with those that may still come, are at most twice the whole points of the root's box, less one.
+pub fn nodes_are_few()
+    ensures { NodesAreFew }
+{}
+
+/// The units are those of the closed nodes and of the appended cuts, and never more than the budget.
+pub fn sizes_are_right()
+    ensures { SizesAreRight }
+{}
+
+/// Each place in the history that the state keeps is that of the entry which it speaks of.
+pub fn places_are_right()
+    ensures { PlacesAreRight }
+{}
+
+/// Nothing better is lost: each feasible point that is better than the best post so far, or each where there is none, lies in
+/// the box of an open node.
+pub fn nothing_better_is_lost()
+    ensures { NothingBetterIsLost }
+{}
+
+/// Where no node is open, a search without a best post shows that no point is feasible, and in mode Cost each point of the
+/// best post's parts is optimal.
+pub fn finished_searches_are_true()
+    ensures { FinishedSearchesAreTrue }
+{}
+
+/// In mode Point a best post shows that the model is unbounded.
+pub fn rays_are_true()
+    ensures { RaysAreTrue }
+{}
+
+/// Where no node is open there is a tree below the first one. With it, the pool's cuts and the best post's parts, the
+/// certificate of the search passes and fits, whichever its verdict.
+pub fn certificates_are_right()
+    ensures { CertificatesAreRight }
+{}

@@ -1,0 +1,12 @@
+//! The history of a search: the state that its events make, one after another, which event may follow, and what is true of
+//! every legal history.
+#![tactic(auto)]
+
+mod laws;
+mod state;
+
+pub use laws::{
+    certificates_are_right, counts_rise, finished_searches_are_true, fronts_rise, leaves_are_right,
+    lives_are_right, nodes_are_few, nothing_better_is_lost, places_are_right, pools_are_right,
+    posts_are_right, rays_are_true, sizes_are_right, trees_are_whole,
+};
