@@ -1,0 +1,4 @@
+pub mod Handing
+pub mod Outcomes
+pub mod Searches
+pub mod Tasks
