@@ -1,0 +1,2 @@
+pub mod FloorsFollow
+pub mod GoingOn
