@@ -1,2 +1,4 @@
 pub mod FloorsFollow
 pub mod GoingOn
+pub mod StopsFollow
+pub mod Tasks
