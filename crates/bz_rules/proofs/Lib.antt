@@ -1,3 +1,5 @@
+pub mod BestPosts
+pub mod Completing
 pub mod FloorsFollow
 pub mod GoingOn
 pub mod StopsFollow
