@@ -2,5 +2,8 @@ pub mod BestPosts
 pub mod Completing
 pub mod FloorsFollow
 pub mod GoingOn
+pub mod NodeEnds
+pub mod NodesFollow
+pub mod SeparationsFollow
 pub mod StopsFollow
 pub mod Tasks
