@@ -1,8 +1,9 @@
 //! The state of a search, and what can be read of it.
-ghost use Rattle.std.specs.Prelude.{◌≡◌, IfOk, max};
+ghost use Rattle.std.specs.Prelude.{◌≡◌, ◌≤◌, IfOk, length, max};
 ghost use Rattle.std.specs.List.{list_any};
 ghost use Rattle.std.specs.Option.{option_copied};
 ghost use Rattle.bz_history.specs.States.{is_done, is_open, least_front, mode_of, opening, side};
+ghost use Rattle.bz_state.specs.Views.{number_limit};
 
 use bz_cut::Mode;
 use bz_history::{FallingRay, Node, Post, Region, Stopped};
@@ -133,14 +134,16 @@ impl Progress {
 
     /// The nodes, by number.
     pub fn nodes(&self) -> &[Node]
-        ensures { result.now ≡ self.now.state.nodes }
+        ensures nodes { result.now ≡ self.now.state.nodes }
+        ensures few { length result.now ≤ number_limit }
     {
         self.nodes.as_slice()
     }
 
     /// The posted points, by number.
     pub fn posts(&self) -> &[Post]
-        ensures { result.now ≡ self.now.state.posts }
+        ensures posts { result.now ≡ self.now.state.posts }
+        ensures few { length result.now ≤ number_limit }
     {
         self.posts.as_slice()
     }
@@ -190,6 +193,13 @@ impl Progress {
         self.stop.is_some()
             || !any_open(self.nodes.as_slice())
             || (self.ray.is_some() && self.best.is_some())
+    }
+
+    /// Whether a node is open.
+    pub fn has_open_node(&self) -> bool
+        ensures { result ≡ list_any is_open self.now.state.nodes }
+    {
+        any_open(self.nodes.as_slice())
     }
 
     /// How many cuts a node has to be solved over at least.
