@@ -1,0 +1,9 @@
+pub mod BestPosts
+pub mod Completing
+pub mod FloorsFollow
+pub mod GoingOn
+pub mod NodeEnds
+pub mod NodesFollow
+pub mod SeparationsFollow
+pub mod StopsFollow
+pub mod Tasks

@@ -1,0 +1,27 @@
+//! What is proved of rules and entries.
+ghost use Rattle.bz_rules.specs.Laws.{FloorsFollow, HistoriesGoOn, NodesFollow, SeparationsFollow, StopsFollow};
+
+/// The history with events that may follow, stamped by a worker, is legal, and units are left unless the search is done.
+pub fn histories_go_on()
+    ensures { HistoriesGoOn }
+{}
+
+/// Where the rules of a floor's answer hold, each of its events may follow.
+pub fn floors_follow()
+    ensures { FloorsFollow }
+{}
+
+/// Where the rules of a stop hold, each of its events may follow.
+pub fn stops_follow()
+    ensures { StopsFollow }
+{}
+
+/// Where the rules of a node's answer hold, each of its events may follow.
+pub fn nodes_follow()
+    ensures { NodesFollow }
+{}
+
+/// Where the rules of a separation's answer hold, each of its events may follow.
+pub fn separations_follow()
+    ensures { SeparationsFollow }
+{}
