@@ -1,3 +1,5 @@
+pub mod Floors
+pub mod Giving
 pub mod Handing
 pub mod Outcomes
 pub mod Searches

@@ -1,6 +1,7 @@
 -- What contracts see of a search, and what its type keeps.
 use Rattle.std.specs.Prelude.{ℕ, ◌≡◌, ◌<◌, ◌≤◌, Bool, true, false, List, length, Some, None}
 use Rattle.std.specs.List.{AllByRecursion, slice_get}
+use Rattle.bz_model.specs.Decomposed.{IsDecomposed}
 use Rattle.bz_model.specs.Parting.{blocks_of}
 use Rattle.bz_model.specs.Splits.{Decomposition}
 use Rattle.bz_event.specs.declared.events.Entry.{Entry}
@@ -49,6 +50,7 @@ pub record AreMarks (d : Decomposition) (t : State) (marks : Marks) : Type 0 whe
 -- units are left: these two aren't true of every legal history, but of what answers append.
 pub record IsSearch (d : Decomposition) (budget : ℕ) (root : Region) (es : List Entry) (t : State) (marks : Marks)
     : Type 0 where
+  pub decomposed : IsDecomposed d.model d.part
   pub positive : 0 < budget
   pub at_most : budget ≤ greatest_budget
   pub replayed : IsReplay d budget root es t

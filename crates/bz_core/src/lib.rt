@@ -4,6 +4,8 @@
 //! task nor how many workers there are.
 #![tactic(auto)]
 
+mod answering;
+mod appending;
 mod choices;
 mod handing;
 mod handouts;
@@ -11,6 +13,7 @@ mod outcomes;
 mod roles;
 mod searches;
 
+pub use answering::Taken;
 pub use outcomes::Outcome;
 pub use roles::{Next, Role};
 pub use searches::Search;

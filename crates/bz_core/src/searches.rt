@@ -1,5 +1,6 @@
 //! A search, how it begins, and what can be read of it.
 ghost use Rattle.std.specs.Prelude.{◌≡◌, ◌<◌, ◌≤◌, [], ◌∷◌, IfOk, false, true};
+ghost use Rattle.bz_model.specs.Decomposed.{IsDecomposed};
 ghost use Rattle.bz_history.specs.Histories.{IsRootRegion, count_of};
 ghost use Rattle.bz_core.specs.Outcomes.{outcome_of};
 ghost use Rattle.bz_core.specs.Searches.{greatest_budget, now};
@@ -51,8 +52,11 @@ impl<'a> Model for Search<'a> {
 
 /// The region of the whole model.
 fn root_region(alloc: Global, split: &Split) -> Result<Region, OutOfMemory>
-    ensures { IfOk result (IsRootRegion split.now.model) }
+    ensures region { IfOk result (IsRootRegion split.now.model) }
+    ensures decomposed { IsDecomposed split.now.model split.now.part }
 {
+    // The call tells what a split keeps in its type.
+    let _model = split.model();
     let NodeBox { lower, upper } = root_box(alloc, split)?;
     Ok(Region { lower, upper })
 }

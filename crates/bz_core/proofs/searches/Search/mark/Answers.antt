@@ -8,6 +8,7 @@ invariant_of-self-in-Sep c =
     subst (λ (m : Marks). IsSearch c.self.inside.split.now c.self.inside.budget c.self.inside.root c.self.inside.history.items c.self.inside.progress.state m)
     (sym c.set_block.ensures)
     (record {
+      decomposed = c.self.invariant.decomposed;
       positive = c.self.invariant.positive;
       at_most = c.self.invariant.at_most;
       replayed = c.self.invariant.replayed;
