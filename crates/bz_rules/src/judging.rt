@@ -1,6 +1,7 @@
 //! By what answers are refused: each judge gives the first rule that doesn't hold.
 ghost use Rattle.std.specs.Prelude.{◌≡◌, ◌↔◌, ◌≤◌, ◌<◌, ◌∷◌, [], false, true, IsTrue, IfOk, None, Some, length};
 ghost use Rattle.std.specs.List.{AllByRecursion, slice_get};
+ghost use Rattle.std.specs.Option.{option_copied};
 ghost use Rattle.bz_first.specs.Tests.{Judges, test};
 ghost use Rattle.bz_std.specs.Tasks.{IsBoxOf, IsCutOfSplit};
 ghost use Rattle.bz_algebra.specs.Numbers.{IsNarrow};
@@ -130,6 +131,20 @@ fn judge_waiting(
     )
 }
 
+/// The node with this number.
+fn node_at(progress: &Progress, number: u32) -> Option<&Node>
+    ensures { option_copied result ≡ slice_get progress.now.state.nodes number }
+{
+    progress.nodes().get(number as usize)
+}
+
+/// The post with this number.
+fn post_at(progress: &Progress, number: u32) -> Option<&Post>
+    ensures { option_copied result ≡ slice_get progress.now.state.posts number }
+{
+    progress.posts().get(number as usize)
+}
+
 /// The box of a region. It takes memory.
 pub fn box_of(alloc: Global, region: &Region) -> Result<NodeBox, OutOfMemory>
     requires lower { AllByRecursion IsNarrow region.now.lower }
@@ -157,7 +172,7 @@ pub fn judge_node(
     if let Err(refused) = judge_running(progress) {
         return Ok(Err(refused));
     }
-    match progress.nodes().get(number as usize) {
+    match node_at(progress, number) {
         None => Ok(Err(Refused::Unfit)),
         Some(node) => {
             let region = box_of(alloc, &node.region)?;
