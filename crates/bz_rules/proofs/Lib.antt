@@ -2,6 +2,7 @@ pub mod BestPosts
 pub mod Completing
 pub mod FloorsFollow
 pub mod GoingOn
+pub mod Judged
 pub mod NodeEnds
 pub mod NodesFollow
 pub mod SeparationsFollow

@@ -4,8 +4,10 @@
 //! This crate changes no state, and knows neither who solves a task nor who is handed one.
 #![tactic(auto)]
 
+mod judging;
 mod laws;
 mod refused;
 
+pub use judging::{judge_floor, judge_node};
 pub use laws::{floors_follow, histories_go_on, nodes_follow, separations_follow, stops_follow};
 pub use refused::Refused;
