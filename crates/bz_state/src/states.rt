@@ -1,8 +1,10 @@
 //! The state of a search, and what can be read of it.
-ghost use Rattle.std.specs.Prelude.{◌≡◌, ◌≤◌, IfOk, length, max};
+ghost use Rattle.std.specs.Prelude.{◌≡◌, ◌≤◌, IfNone, IfOk, IfSome, length, max};
 ghost use Rattle.std.specs.List.{list_any};
 ghost use Rattle.std.specs.Option.{option_copied};
+ghost use Rattle.bz_model.specs.Parting.{blocks_of};
 ghost use Rattle.bz_history.specs.States.{is_done, is_open, least_front, mode_of, opening, side};
+ghost use Rattle.bz_history.specs.Steps.{AreFloorsReady, IsNextFloor};
 ghost use Rattle.bz_state.specs.Views.{number_limit};
 
 use bz_cut::Mode;
@@ -200,6 +202,18 @@ impl Progress {
         ensures { result ≡ list_any is_open self.now.state.nodes }
     {
         any_open(self.nodes.as_slice())
+    }
+
+    /// The next block without a floor, where floors are still made.
+    pub fn next_floor(&self, split: &Split) -> Option<u32>
+        requires { length self.now.state.floors ≤ blocks_of split.now.part }
+        ensures some { IfSome result (IsNextFloor split.now self.now.state) }
+        ensures none { IfNone result (AreFloorsReady split.now self.now.state) }
+    {
+        if self.ray.is_some() || self.floors.len() >= split.blocks() as usize {
+            return None;
+        }
+        Some(self.floors.len() as u32 + 1)
     }
 
     /// How many cuts a node has to be solved over at least.

@@ -1,0 +1,6 @@
+pub mod Floors
+pub mod Giving
+pub mod Handing
+pub mod Outcomes
+pub mod Searches
+pub mod Tasks
