@@ -1,9 +1,7 @@
 -- The best post so far, as the entries ask for it.
-use Rattle.std.proofs.Common.{◌≡◌, true, false, refl, sym, ◌∙◌, ap, subst, ℕ, List, [], ◌∷◌, inl, inr, arith}
-use Rattle.std.proofs.lemmas.Bool.{cases_Bool}
+use Rattle.std.proofs.Common.{◌≡◌, true, false, refl, sym, ◌∙◌, ap, subst, ℕ, List, inr, arith}
 use Rattle.std.proofs.lemmas.Int.{ints}
-use Rattle.std.specs.Prelude.{◌⊎◌, Option, Some, None, Bool, not, int_le, ℤ, pos, ◌*ℤ◌, ◌≤ℤ◌, ◌<ℤ◌}
-use Rattle.std.specs.List.{slice_get}
+use Rattle.std.specs.Prelude.{Option, Some, None, Bool, not, int_le, ℤ, pos, ◌*ℤ◌, ◌≤ℤ◌, ◌<ℤ◌}
 use Rattle.bz_algebra.proofs.Ring.{cancel_le_right, cancel_lt_right, mul_le_right, mul_lt_right, mul_right}
 use Rattle.bz_model.specs.declared.Master.{Master}
 use Rattle.bz_model.specs.Splits.{Decomposition}
@@ -13,11 +11,11 @@ use Rattle.bz_tree.specs.declared.Leaf.{Leaf}
 use Rattle.bz_event.specs.Nodes.{value_of}
 use Rattle.bz_history.specs.declared.state.Post.{Post}
 use Rattle.bz_history.specs.Finished.{BestIsFilled}
-use Rattle.bz_history.specs.States.{State, mode_of}
+use Rattle.bz_history.specs.States.{State}
 use Rattle.bz_history.specs.Steps.{IsAt, IsBelow, IsBest, IsBetter, IsFilled, ReachesBest}
 use Rattle.bz_history.proofs.CoverSteps.{ArePointsKept}
 use Rattle.bz_history.proofs.Lists.{at_one}
-use Rattle.bz_rules.specs.Entries.{best_post, is_below, is_better, is_reached, post_of, reaching}
+use Rattle.bz_rules.specs.Entries.{best_post, is_below, is_better, is_reached, post_of}
 
 -- ---- numbers
 pub at_most_true : (a b : ℤ) → int_le a b ≡ true → a ≤ℤ b

@@ -1,13 +1,12 @@
 -- A post that is complete: it may become the best, and its node may be closed.
-use Rattle.std.proofs.Common.{◌≡◌, true, false, refl, sym, ◌∙◌, ap, subst, ℕ, ◌<◌, ◌≤◌, List, [], ◌∷◌, ◌++◌, length, inl, inr, arith}
+use Rattle.std.proofs.Common.{◌≡◌, true, false, refl, sym, subst, ℕ, ◌<◌, ◌≤◌, List, [], ◌∷◌, ◌++◌, length, inr, arith}
 use Rattle.std.proofs.lemmas.Int.{ints}
-use Rattle.std.specs.Prelude.{Option, Some, None, Bool, not, ◌||◌, ◌&&◌, cond, is_some, take, ℤ, pos, ◌*ℤ◌, ◌≤ℤ◌, ◌<ℤ◌}
-use Rattle.std.specs.List.{list_any, slice_get}
+use Rattle.std.specs.Prelude.{Option, Some, None, Bool, not, ◌||◌, ◌&&◌, cond, is_some, take, pos, ◌*ℤ◌, ◌<ℤ◌}
+use Rattle.std.specs.List.{list_any}
 use Rattle.bz_model.specs.Splits.{Decomposition}
 use Rattle.bz_cut.specs.declared.Mode.{Mode}
 use Rattle.bz_cut.specs.declared.Mode.TheVariants as mode
 use Rattle.bz_tree.specs.declared.Leaf.{Leaf}
-use Rattle.bz_event.specs.declared.events.Event.{Event}
 use Rattle.bz_event.specs.declared.events.Event.TheVariants as event
 use Rattle.bz_event.specs.declared.events.How.TheVariants as how
 use Rattle.bz_event.specs.Nodes.{HasLeafOfValue, IsLeafOfValue, value_of}
@@ -15,7 +14,7 @@ use Rattle.bz_history.specs.declared.state.FallingRay.{FallingRay}
 use Rattle.bz_history.specs.declared.state.Node.{Node}
 use Rattle.bz_history.specs.declared.state.Post.{Post}
 use Rattle.bz_history.specs.States.{State, box_of, effect, is_done, is_live, is_open, mode_for, mode_of}
-use Rattle.bz_history.specs.Steps.{IsAt, IsBetter, IsCloseStep, IsFilled, IsIncumbentStep, IsLeafStep, ReachesBest}
+use Rattle.bz_history.specs.Steps.{IsAt, IsBetter, IsCloseStep, IsFilled, IsIncumbentStep, ReachesBest}
 use Rattle.bz_rules.specs.Entries.{leaf_events}
 use Rattle.bz_rules.specs.Following.{FollowInTurn}
 use Rattle.bz_rules.proofs.BestPosts.{HasBetter, reached_by_value}
@@ -65,8 +64,12 @@ module _ (d : Decomposition) (budget : ℕ) (u : State) (i : ℕ) (post : Post) 
       inr (post, (i, refl, k.is_post), l.delta, omega (arith, ints, same))
 
   reaches_other : (leaf : Leaf) → IsLeafOfValue d.model d.part (box_of k.x.region) (take post.front u.cuts) (value_of d.model d.part post.point) post.point.den leaf → HasBetter d u post.point → ReachesBest d u leaf
-  reaches_other leaf l b = inr (b.best, b.is_best, l.delta,
-      reached_by_value (value_of d.model d.part post.point) post.point.den leaf.bound leaf.delta (value_of d.model d.part b.best.point) b.best.point.den l.delta k.den l.bound b.at_most)
+  reaches_other leaf l b = inr (
+    b.best,
+    b.is_best,
+    l.delta,
+    reached_by_value (value_of d.model d.part post.point) post.point.den leaf.bound leaf.delta (value_of d.model d.part b.best.point) b.best.point.den l.delta k.den l.bound b.at_most,
+  )
 
   pub complete_follows : (b : Bool) → (b ≡ true → IsBetter d u (mode_of u) (value_of d.model d.part post.point) post.point.den) → (b ≡ false → HasBetter d u post.point)
       → FollowInTurn d budget u (cond b (event.Incumbent i ∷ []) [] ++ leaf_events (mode_of u) post.node post.front post.leaf)
@@ -79,8 +82,13 @@ module _ (d : Decomposition) (budget : ℕ) (u : State) (i : ℕ) (post : Post) 
       by true mode.Point o way l f g = (k.running, incumbent (f refl), tt)
       by false mode.Point o way l f g = tt
       by c mode.Cost None way l f g = absurd l
-      by true mode.Cost (Some leaf) way l f g =
-          (k.running, incumbent (f refl),
-          (still_running (is_some u.stop) (not (list_any is_open u.nodes)) u.ray u.best (Some i) way k.running,
-          closing leaf l (effect d u (event.Incumbent i)) refl refl refl (reaches_itself leaf l), tt))
+      by true mode.Cost (Some leaf) way l f g = (
+        k.running,
+        incumbent (f refl),
+        (
+          still_running (is_some u.stop) (not (list_any is_open u.nodes)) u.ray u.best (Some i) way k.running,
+          closing leaf l (effect d u (event.Incumbent i)) refl refl refl (reaches_itself leaf l),
+          tt,
+        ),
+      )
       by false mode.Cost (Some leaf) way l f g = (k.running, closing leaf l u refl refl refl (reaches_other leaf l (g refl)), tt)

@@ -1,10 +1,9 @@
 -- The events of floors may follow.
-use Rattle.std.proofs.Common.{◌≡◌, refl, sym, subst, ap, ℕ, List, [], ◌∷◌}
+use Rattle.std.proofs.Common.{◌≡◌, sym, subst, ℕ}
 use Rattle.bz_first.specs.Tests.{AllHold}
 use Rattle.bz_model.specs.Splits.{Decomposition}
 use Rattle.bz_event.specs.declared.answers.FloorAnswer.{FloorAnswer}
 use Rattle.bz_event.specs.declared.answers.FloorAnswer.TheVariants as answer
-use Rattle.bz_event.specs.declared.answers.Solved.{Solved}
 use Rattle.bz_event.specs.declared.tasks.TaskName.{TaskName}
 use Rattle.bz_event.specs.declared.tasks.TaskName.TheVariants as name
 use Rattle.bz_event.specs.Floors.{IsFloorAnswer, SolvesFloor}

@@ -1,8 +1,8 @@
 -- Histories with more entries that follow in turn.
-use Rattle.std.proofs.Common.{◌≡◌, refl, sym, ◌∙◌, ap, subst, ℕ, suc, ◌+◌, ◌<◌, ◌≤◌, List, [], ◌∷◌, ◌++◌, arith, append_assoc, append-nil, true, false, inl, inr}
-use Rattle.std.proofs.lemmas.Bool.{and_parts, cases_Bool, cases_eq, eqb-true, eqb-false, eq-eqb, not_from_false, or_parts, true_from_ne_false, and_from}
-use Rattle.std.specs.Prelude.{Bool, ◌==◌, ◌&&◌, ◌||◌, not, cond, is_some, Some}
-use Rattle.std.specs.List.{list_any, slice_get}
+use Rattle.std.proofs.Common.{◌≡◌, refl, sym, ◌∙◌, ap, subst, ℕ, suc, ◌+◌, ◌≤◌, List, [], ◌∷◌, ◌++◌, arith, append_assoc, append-nil, true, false, inl, inr}
+use Rattle.std.proofs.lemmas.Bool.{cases_Bool, eqb-true, eqb-false, eq-eqb}
+use Rattle.std.specs.Prelude.{Bool, ◌==◌, ◌&&◌, ◌||◌, not, cond, is_some}
+use Rattle.std.specs.List.{list_any}
 use Rattle.bz_model.specs.Splits.{Decomposition}
 use Rattle.bz_event.specs.declared.events.Entry.{Entry}
 use Rattle.bz_event.specs.declared.events.Event.{Event}
@@ -11,9 +11,8 @@ use Rattle.bz_event.specs.declared.events.Why.TheVariants as why
 use Rattle.bz_history.specs.declared.state.Node.{Node}
 use Rattle.bz_history.specs.declared.state.Region.{Region}
 use Rattle.bz_history.specs.Histories.{IsReplay, count_of}
-use Rattle.bz_history.specs.Sizes.{AreSizes}
 use Rattle.bz_history.specs.States.{State, effect, is_done, is_open}
-use Rattle.bz_history.specs.Steps.{IsAt, MayFollow}
+use Rattle.bz_history.specs.Steps.{IsAt}
 use Rattle.bz_history.proofs.Growing.{step_more}
 use Rattle.bz_history.proofs.SizeSteps.{sizes_are_right}
 use Rattle.bz_rules.specs.Entries.{after, and_stop, is_spent}

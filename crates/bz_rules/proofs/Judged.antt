@@ -1,7 +1,7 @@
 -- Rules that are judged after those before them hold.
 use Rattle.std.proofs.Common.{◌≡◌, false, refl, inl, inr}
-use Rattle.std.specs.Prelude.{◌⊎◌, Option, Some, None, Result, Ok, Err, List, [], ◌∷◌}
-use Rattle.bz_first.specs.Tests.{AllHold, IsFirstFault, Judges}
+use Rattle.std.specs.Prelude.{Option, Some, None, Result, Ok, Err, ◌∷◌}
+use Rattle.bz_first.specs.Tests.{IsFirstFault, Judges}
 use Rattle.bz_history.specs.States.{State, is_done}
 use Rattle.bz_rules.specs.declared.refused.Refused.{Refused}
 use Rattle.bz_rules.specs.declared.refused.Refused.TheVariants as refused

@@ -1,5 +1,6 @@
 pub mod BestPosts
 pub mod Completing
+pub mod FittingStates
 pub mod FloorsFollow
 pub mod GoingOn
 pub mod Judged

@@ -1,21 +1,19 @@
 -- The ends of the box at a point that meets a node's program: a number that is rounded down there lies between them.
-use Rattle.std.proofs.Common.{◌≡◌, false, refl, sym, ◌∙◌, ap, subst, ℕ, zero, suc, ◌+◌, ◌<◌, List, [], ◌∷◌, ◌++◌, map, arith}
+use Rattle.std.proofs.Common.{◌≡◌, subst, ℕ, zero, suc, ◌+◌, List, [], ◌∷◌, ◌++◌, map, arith}
 use Rattle.std.proofs.lemmas.Int.{by_lt_z, ints}
-use Rattle.std.specs.Prelude.{Option, Some, ℤ, pos, negsuc, neg_ℤ, ◌+ℤ◌, ◌*ℤ◌, ◌≤ℤ◌, ◌<ℤ◌}
+use Rattle.std.specs.Prelude.{Some, ℤ, pos, ◌+ℤ◌, ◌*ℤ◌, ◌≤ℤ◌, ◌<ℤ◌}
 use Rattle.std.specs.List.{AllByRecursion, enumerate_from, flat_map, slice_get}
 use Rattle.bz_algebra.specs.Sums.{dot}
 use Rattle.bz_algebra.proofs.Ring.{cancel_lt_right, neg_mul}
 use Rattle.bz_model.specs.declared.Column.{Column}
-use Rattle.bz_model.specs.declared.Ineq.{Ineq}
 use Rattle.bz_model.specs.declared.Model.{Model}
-use Rattle.bz_model.specs.Decomposed.{IsDecomposed}
 use Rattle.bz_model.specs.Parting.{inequalities_of, integers_of, position_of, width_of}
 use Rattle.bz_model.specs.Points.{IsWhole, coordinate}
 use Rattle.bz_model.proofs.MeetingParts.{all_back, all_from_flat, all_front, all_then}
 use Rattle.bz_cut.specs.declared.Cut.{Cut}
 use Rattle.bz_cut.specs.declared.Mode.{Mode}
 use Rattle.bz_tree.specs.Boxes.{Box}
-use Rattle.bz_tree.specs.Integers.{integer_at, positions_of}
+use Rattle.bz_tree.specs.Integers.{integer_at}
 use Rattle.bz_tree.specs.Leaves.{side_of_cut, side_of_master, sides_of, sides_of_box}
 use Rattle.bz_tree.specs.Trees.{IsSplitOf}
 use Rattle.bz_std.specs.Meanings.{MeetsWithin}
@@ -54,7 +52,7 @@ module _ (m : Model) (part : List ℕ) (box : Box) (cuts : List Cut) (way : Mode
   between h =
       let sides : AllByRecursion (λ i. LineHolds (side_line (width_of part 0) i)) (sides_of m part box cuts) = all_from_mapped LineHolds (side_line (width_of part 0)) (sides_of m part box cuts) h in
       let front : AllByRecursion (λ i. LineHolds (side_line (width_of part 0) i)) (map side_of_master (inequalities_of m part 0) ++ flat_map (sides_of_box part box) (enumerate_from 0 (integers_of m))) =
-          all_front (λ i. LineHolds (side_line (width_of part 0) i)) (map side_of_master (inequalities_of m part 0) ++ flat_map (sides_of_box part box) (enumerate_from 0 (integers_of m))) (map side_of_cut cuts) sides in
+      all_front (λ i. LineHolds (side_line (width_of part 0) i)) (map side_of_master (inequalities_of m part 0) ++ flat_map (sides_of_box part box) (enumerate_from 0 (integers_of m))) (map side_of_cut cuts) sides in
       all_then (λ e. AllByRecursion (λ i. LineHolds (side_line (width_of part 0) i)) (sides_of_box part box e)) IsBetween (enumerate_from 0 (integers_of m))
       (all_from_flat (λ i. LineHolds (side_line (width_of part 0) i)) (sides_of_box part box) (enumerate_from 0 (integers_of m))
       (all_back (λ i. LineHolds (side_line (width_of part 0) i)) (map side_of_master (inequalities_of m part 0)) (flat_map (sides_of_box part box) (enumerate_from 0 (integers_of m))) front))
@@ -78,6 +76,6 @@ module _ (m : Model) (part : List ℕ) (box : Box) (cuts : List Cut) (way : Mode
     upper_end =
         let high : v position ≤ℤ (coordinate box.upper (integer_at m part position) *ℤ den) = subst (λ (p : ℕ). v p ≤ℤ (coordinate box.upper (integer_at m part position) *ℤ den)) split.at_position ends.at_most in
         let strict : (value *ℤ den) <ℤ v position = by_lt_z (value *ℤ den) (v position) (λ l. l) (λ g.
-            let same : v position ≡ value *ℤ den = omega (arith, ints, g, at_most) in
-            absurd (fractional (value, same))) in
+        let same : v position ≡ value *ℤ den = omega (arith, ints, g, at_most) in
+        absurd (fractional (value, same))) in
         cancel_lt_right value (coordinate box.upper (integer_at m part position)) den (omega (arith, ints, positive)) (omega (arith, ints, high, strict))

@@ -1,9 +1,8 @@
 -- The events of nodes may follow.
-use Rattle.std.proofs.Common.{◌≡◌, true, false, refl, sym, ◌∙◌, ap, subst, ℕ, zero, suc, ◌+◌, ◌<◌, ◌≤◌, List, [], ◌∷◌, ◌++◌, length, map, inl, inr, arith}
+use Rattle.std.proofs.Common.{◌≡◌, true, false, refl, sym, subst, ℕ, zero, suc, ◌+◌, List, [], ◌∷◌, ◌++◌, length, map, inl, arith}
 use Rattle.std.proofs.lemmas.Bool.{eqb-true}
-use Rattle.std.proofs.lemmas.Int.{ints}
-use Rattle.std.specs.Prelude.{◌⊎◌, ◌==◌, Option, Some, None, Bool, not, cond, is_some, replicate, take, ℤ, pos, ◌+ℤ◌, ◌*ℤ◌, ◌<ℤ◌}
-use Rattle.std.specs.List.{AllByRecursion, enumerate_from, list_any, slice_get}
+use Rattle.std.specs.Prelude.{◌==◌, Option, Some, None, Bool, cond, is_some, replicate, take, ℤ, pos, ◌+ℤ◌, ◌<ℤ◌}
+use Rattle.std.specs.List.{AllByRecursion, enumerate_from, list_any}
 use Rattle.bz_first.specs.Tests.{AllHold}
 use Rattle.bz_algebra.specs.Sums.{dot}
 use Rattle.bz_num.specs.Dense.{entry}
@@ -18,14 +17,13 @@ use Rattle.bz_cut.specs.declared.Mode.{Mode}
 use Rattle.bz_cut.specs.declared.Mode.TheVariants as mode
 use Rattle.bz_tree.specs.declared.Leaf.{Leaf}
 use Rattle.bz_tree.specs.Boxes.{Box}
-use Rattle.bz_tree.specs.Integers.{IntegerHolds, integer_at, positions_of}
+use Rattle.bz_tree.specs.Integers.{IntegerHolds, integer_at}
 use Rattle.bz_tree.specs.Leaves.{LeafHolds}
 use Rattle.bz_tree.specs.TreeFits.{FitsLeaf}
 use Rattle.bz_tree.specs.Trees.{IsSplitOf}
 use Rattle.bz_tableau.specs.declared.programs.Lp.{Lp}
-use Rattle.bz_std.specs.LowestForms.{IsWithinEnds, MeetsNode}
+use Rattle.bz_std.specs.LowestForms.{IsWithinEnds}
 use Rattle.bz_std.specs.Meanings.{IsLeastAt, differences}
-use Rattle.bz_std.specs.Posed.{IsPosed}
 use Rattle.bz_std.specs.Tasks.{node, node_cost}
 use Rattle.bz_std.specs.Told.{IsOfBoth}
 use Rattle.bz_std.proofs.Crossing.{least_crosses}
@@ -33,20 +31,17 @@ use Rattle.bz_std.proofs.NodesTold.{leaf_fits_told, leaf_holds_told, met_told}
 use Rattle.bz_std.proofs.PosedTasks.{node_posed}
 use Rattle.bz_event.specs.declared.answers.NodeAnswer.{NodeAnswer}
 use Rattle.bz_event.specs.declared.answers.NodeAnswer.TheVariants as answer
-use Rattle.bz_event.specs.declared.answers.Solved.{Solved}
 use Rattle.bz_event.specs.declared.events.Entry.{Entry}
 use Rattle.bz_event.specs.declared.events.Event.{Event}
 use Rattle.bz_event.specs.declared.events.Event.TheVariants as event
 use Rattle.bz_event.specs.declared.events.How.TheVariants as how
 use Rattle.bz_event.specs.declared.tasks.TaskName.{TaskName}
-use Rattle.bz_event.specs.declared.tasks.TaskName.TheVariants as name
-use Rattle.bz_event.specs.Nodes.{HasLeafOfValue, IsEmptyNode, IsLeafOfValue, IsNodeAnswer, IsPointOfNode, IsSplitNode, SolvesSomeNode, value_of}
+use Rattle.bz_event.specs.Nodes.{HasLeafOfValue, IsNodeAnswer, IsPointOfNode, IsSplitNode, value_of}
 use Rattle.bz_history.specs.declared.state.Filled.{Filled}
 use Rattle.bz_history.specs.declared.state.Node.{Node}
-use Rattle.bz_history.specs.declared.state.Post.{Post}
 use Rattle.bz_history.specs.declared.state.Region.{Region}
 use Rattle.bz_history.specs.States.{State, box_of, changed, effect, is_done, is_open, mode_of, posted_by, posted_point}
-use Rattle.bz_history.specs.Steps.{IsBetter, IsCloseStep, IsFilled, IsPostStep, IsPostedPoint, IsSplitStep, ReachesBest}
+use Rattle.bz_history.specs.Steps.{IsBetter, IsCloseStep, IsPostStep, IsPostedPoint, ReachesBest}
 use Rattle.bz_history.proofs.BestSteps.{best_is_filled}
 use Rattle.bz_history.proofs.CoverSteps.{points_with}
 use Rattle.bz_history.proofs.Lists.{at_end, changed_here}

@@ -1,7 +1,7 @@
 -- The events of separations may follow.
-use Rattle.std.proofs.Common.{◌≡◌, true, false, refl, sym, ◌∙◌, ap, subst, ℕ, zero, suc, ◌-◌, ◌<◌, ◌≤◌, List, [], ◌∷◌, ◌++◌, length, inl, inr, arith}
-use Rattle.std.proofs.lemmas.Bool.{cases_Bool, cases_lt}
-use Rattle.std.specs.Prelude.{◌⊎◌, Option, Some, None, Bool, not, cond, is_none, is_some, set, take}
+use Rattle.std.proofs.Common.{◌≡◌, true, false, refl, sym, ◌∙◌, subst, ℕ, zero, suc, ◌-◌, ◌<◌, ◌≤◌, List, [], ◌∷◌, ◌++◌, inl, inr, arith}
+use Rattle.std.proofs.lemmas.Bool.{cases_lt}
+use Rattle.std.specs.Prelude.{Option, Some, None, Bool, not, cond, is_none, is_some, set, take}
 use Rattle.std.specs.List.{AllByRecursion, list_any, slice_get}
 use Rattle.bz_first.specs.Tests.{AllHold}
 use Rattle.bz_model.specs.declared.BlockPart.{BlockPart}
@@ -20,7 +20,6 @@ use Rattle.bz_event.specs.declared.answers.SepAnswer.{SepAnswer}
 use Rattle.bz_event.specs.declared.answers.SepAnswer.TheVariants as answer
 use Rattle.bz_event.specs.declared.answers.Solved.{Solved}
 use Rattle.bz_event.specs.declared.events.Entry.{Entry}
-use Rattle.bz_event.specs.declared.events.Event.{Event}
 use Rattle.bz_event.specs.declared.events.Event.TheVariants as event
 use Rattle.bz_event.specs.declared.tasks.TaskName.{TaskName}
 use Rattle.bz_event.specs.declared.tasks.TaskName.TheVariants as name
@@ -32,7 +31,7 @@ use Rattle.bz_history.specs.declared.state.Region.{Region}
 use Rattle.bz_history.specs.Lives.{HasLivePost}
 use Rattle.bz_history.specs.Posts.{IsPostOf}
 use Rattle.bz_history.specs.States.{State, effect, filled_by, is_done, is_live, is_open, mode_of}
-use Rattle.bz_history.specs.Steps.{IsAt, IsCutOfPoint, IsFilled, MayFollow}
+use Rattle.bz_history.specs.Steps.{IsAt, IsCutOfPoint, MayFollow}
 use Rattle.bz_history.proofs.BestSteps.{best_is_filled}
 use Rattle.bz_history.proofs.CoverSteps.{points_changed}
 use Rattle.bz_history.proofs.Lists.{all_at, at_one, changed_here}
@@ -41,7 +40,7 @@ use Rattle.bz_history.proofs.PostSteps.{posts_are_right}
 use Rattle.bz_rules.specs.Entries.{IsKnown, IsKnownAnswer, cut_events, fill_events, is_better, is_last, leaf_events, separation_events, separation_task_events}
 use Rattle.bz_rules.specs.Following.{FollowInTurn, IsSearch}
 use Rattle.bz_rules.specs.Laws.{SeparationsFollow}
-use Rattle.bz_rules.specs.Rules.{carried_rules, cut_rules, fill_rules, separation_rules, separation_task_rules}
+use Rattle.bz_rules.specs.Rules.{separation_rules, separation_task_rules}
 use Rattle.bz_rules.proofs.BestPosts.{better_later, better_there}
 use Rattle.bz_rules.proofs.Completing.{IsComplete, complete_follows}
 use Rattle.bz_rules.proofs.GoingOn.{stop_follows}

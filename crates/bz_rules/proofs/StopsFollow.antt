@@ -1,16 +1,15 @@
 -- A stop may follow.
-use Rattle.std.proofs.Common.{◌≡◌, false, refl, sym, ◌∙◌, ap, subst, ℕ, ◌-◌, List, [], ◌∷◌, inl, inr}
-use Rattle.std.specs.Prelude.{◌⊎◌, Option, Some, None, take}
+use Rattle.std.proofs.Common.{◌≡◌, false, sym, ◌∙◌, subst, ℕ, List, [], ◌∷◌, inl, inr}
+use Rattle.std.specs.Prelude.{Option, Some, take}
 use Rattle.std.specs.List.{slice_get}
 use Rattle.bz_first.specs.Tests.{AllHold}
 use Rattle.bz_model.specs.declared.Master.{Master}
-use Rattle.bz_model.specs.Parting.{inequalities_of}
 use Rattle.bz_model.specs.Splits.{Decomposition}
 use Rattle.bz_cut.specs.declared.Mode.{Mode}
 use Rattle.bz_tableau.specs.declared.answers.WideAt.{WideAt}
 use Rattle.bz_tableau.specs.declared.answers.WideAt.TheVariants.{Build, Pivot, Den, Fold}
 use Rattle.bz_tableau.specs.declared.programs.Lp.{Lp}
-use Rattle.bz_std.specs.Tasks.{IsMasterOf, IsSeparationLp}
+use Rattle.bz_std.specs.Tasks.{IsMasterOf}
 use Rattle.bz_std.proofs.CutsOfBases.{one_program_mode}
 use Rattle.bz_event.specs.declared.answers.Solved.{Solved}
 use Rattle.bz_event.specs.declared.events.Event.TheVariants as event
@@ -23,9 +22,9 @@ use Rattle.bz_history.specs.declared.state.Post.{Post}
 use Rattle.bz_history.specs.declared.state.Region.{Region}
 use Rattle.bz_history.specs.States.{State, box_of, is_done, mode_of}
 use Rattle.bz_history.specs.Steps.{IsStopStep, IsStoppedFloor, IsStoppedNode, IsStoppedSeparation}
-use Rattle.bz_rules.specs.Following.{FollowInTurn, IsSearch}
+use Rattle.bz_rules.specs.Following.{IsSearch}
 use Rattle.bz_rules.specs.Laws.{StopsFollow}
-use Rattle.bz_rules.specs.Rules.{carried_rules, floor_rules, node_rules, stop_rules, stop_task_rules, stopped_rules}
+use Rattle.bz_rules.specs.Rules.{floor_rules, node_rules, stop_rules, stop_task_rules, stopped_rules}
 use Rattle.bz_rules.proofs.FloorsFollow.{next_floor}
 use Rattle.bz_rules.proofs.GoingOn.{stop_follows}
 use Rattle.bz_rules.proofs.Tasks.{IsAnswered, IsTask, block_in_point, both, box_of_node, cuts_of_split, one_mode, task_of, there, wide_in_node_told}

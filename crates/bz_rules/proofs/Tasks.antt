@@ -1,11 +1,10 @@
 -- What a legal history says of its tasks: the nodes' boxes and cuts, and the mode.
-use Rattle.std.proofs.Common.{◌≡◌, refl, sym, ◌∙◌, ap, subst, ℕ, zero, suc, ◌<◌, ◌≤◌, List, [], ◌∷◌, length, arith, inl, inr, map}
-use Rattle.std.specs.Prelude.{◌⊎◌, Option, Some, None, take, ℤ, Bool, true, false, IsSome}
+use Rattle.std.proofs.Common.{◌≡◌, refl, sym, ◌∙◌, ap, subst, ℕ, zero, suc, ◌<◌, List, [], ◌∷◌, length, arith, inl, inr}
+use Rattle.std.specs.Prelude.{◌⊎◌, Option, Some, None, take, ℤ, Bool, true, false}
 use Rattle.std.specs.List.{AllByRecursion, slice_get}
 use Rattle.std.proofs.lemmas.List.{length-map}
 use Rattle.std.proofs.lemmas.Bool.{cases_lt}
 use Rattle.bz_first.specs.Tests.{AllHold}
-use Rattle.bz_model.specs.declared.Ineq.{Ineq}
 use Rattle.bz_model.specs.declared.Model.{Model}
 use Rattle.bz_model.specs.Parting.{blocks_of, width_of}
 use Rattle.bz_model.specs.Splits.{Decomposition}
@@ -20,20 +19,20 @@ use Rattle.bz_tableau.specs.declared.answers.WideAt.TheVariants.{Build, Pivot, D
 use Rattle.bz_tableau.specs.declared.programs.Lp.{Lp}
 use Rattle.bz_std.specs.CutsFrom.{AreEntries}
 use Rattle.bz_std.specs.Fitting.{IsWideLeaf}
-use Rattle.bz_std.specs.Posed.{IsProgramOf, Line, Posed}
-use Rattle.bz_std.specs.Tasks.{IsBoxOf, IsCutOfSplit, IsNodeLp, node, side_line}
+use Rattle.bz_std.specs.Posed.{Posed}
+use Rattle.bz_std.specs.Tasks.{IsBoxOf, IsCutOfSplit, IsNodeLp, side_line}
 use Rattle.bz_std.specs.Told.{IsOfBoth}
 use Rattle.bz_std.proofs.NodesTold.{leaf_fits_told, mode_told, posed_told}
 use Rattle.bz_event.specs.declared.events.Entry.{Entry}
 use Rattle.bz_event.specs.Nodes.{HasBlockInPoint}
-use Rattle.bz_event.specs.Stops.{IsWideEmptyNode, IsWideInNode, IsWideLeafSum, IsWideLeastNode, IsWideNode, IsWidePointSum}
+use Rattle.bz_event.specs.Stops.{IsWideInNode, IsWideLeafSum, IsWideNode, IsWidePointSum}
 use Rattle.bz_history.specs.declared.state.FallingRay.{FallingRay}
 use Rattle.bz_history.specs.declared.state.Node.{Node}
 use Rattle.bz_history.specs.declared.state.Region.{Region}
 use Rattle.bz_history.specs.Histories.{IsReplay}
 use Rattle.bz_history.specs.States.{State, box_of, mode_for, mode_of}
 use Rattle.bz_history.specs.Steps.{IsAt, IsFrontOf, IsWaiting, AreFloorsReady}
-use Rattle.bz_history.specs.Trees.{IsInside, IsTree}
+use Rattle.bz_history.specs.Trees.{IsInside}
 use Rattle.bz_history.proofs.PoolSteps.{pools_are_right}
 use Rattle.bz_history.proofs.RaySteps.{IsRayOf, ray_is_right}
 use Rattle.bz_history.proofs.TreeSteps.{trees_are_whole}
@@ -63,7 +62,7 @@ all_front P zero xs h = tt
 all_front P (suc n) [] h = tt
 all_front P (suc n) (x ∷ xs) h = (h.0, all_front P n xs h.1)
 
-cuts_valid : (d : Decomposition) (cuts : List Cut) → AllByRecursion (IsValid d.model d.part) cuts → AllByRecursion (IsCutOfSplit d.part) cuts
+pub cuts_valid : (d : Decomposition) (cuts : List Cut) → AllByRecursion (IsValid d.model d.part) cuts → AllByRecursion (IsCutOfSplit d.part) cuts
 cuts_valid d [] h = tt
 cuts_valid d (cut ∷ cuts) h = (record { first = h.0.block.0; last = h.0.block.1; alpha = h.0.alpha }, cuts_valid d cuts h.1)
 

@@ -1,5 +1,5 @@
 -- What an accepted answer appends to the history: at most four events, as a function of the state and the answer.
-use Rattle.std.specs.Prelude.{ℕ, suc, ◌-◌, ◌≡◌, ◌*ℤ◌, int_le, not, ◌&&◌, ◌==◌, Bool, true, false, List, [], ◌∷◌, ◌++◌, cond, length, set, Option, Some, None, is_none}
+use Rattle.std.specs.Prelude.{ℕ, ◌-◌, ◌≡◌, ◌*ℤ◌, int_le, not, ◌&&◌, ◌==◌, Bool, true, false, List, [], ◌∷◌, ◌++◌, cond, length, set, Option, Some, None, is_none}
 use Rattle.std.specs.List.{list_any, slice_get}
 use Rattle.bz_model.specs.declared.BlockPart.{BlockPart}
 use Rattle.bz_model.specs.declared.Master.{Master}
@@ -24,7 +24,6 @@ use Rattle.bz_event.specs.declared.events.Why.TheVariants as why
 use Rattle.bz_event.specs.declared.tasks.TaskName.{TaskName}
 use Rattle.bz_event.specs.declared.tasks.TaskName.TheVariants as name
 use Rattle.bz_event.specs.Nodes.{value_of}
-use Rattle.bz_history.specs.declared.state.Filled.{Filled}
 use Rattle.bz_history.specs.declared.state.Post.{Post}
 use Rattle.bz_history.specs.States.{State, effect, is_done, mode_of}
 use Rattle.bz_pool.specs.Pools.{IsNew, IsPlaceOf}

@@ -1,5 +1,5 @@
 -- Events that a worker appends one after the other.
-use Rattle.std.specs.Prelude.{ℕ, suc, ◌≡◌, ◌<◌, false, List, [], ◌∷◌, ◌++◌}
+use Rattle.std.specs.Prelude.{ℕ, suc, ◌≡◌, ◌<◌, false, List, [], ◌∷◌}
 use Rattle.bz_model.specs.Decomposed.{IsDecomposed}
 use Rattle.bz_model.specs.Splits.{Decomposition}
 use Rattle.bz_event.specs.declared.events.Entry.{Entry}

@@ -1,5 +1,5 @@
 -- What is proved of rules and entries: what is appended is legal.
-use Rattle.std.specs.Prelude.{ℕ, ◌≡◌, List, ◌++◌, Option}
+use Rattle.std.specs.Prelude.{ℕ, List, ◌++◌, Option}
 use Rattle.bz_first.specs.Tests.{AllHold}
 use Rattle.bz_model.specs.Splits.{Decomposition}
 use Rattle.bz_tableau.specs.declared.answers.WideAt.{WideAt}

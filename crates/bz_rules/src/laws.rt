@@ -1,5 +1,11 @@
 //! What is proved of rules and entries.
 ghost use Rattle.bz_rules.specs.Laws.{FloorsFollow, HistoriesGoOn, NodesFollow, SeparationsFollow, StopsFollow};
+ghost use Rattle.bz_rules.specs.Shapes.{StatesFit};
+
+/// The cuts, the nodes' regions and the posted points of every legal history fit the split.
+pub fn states_fit()
+    ensures { StatesFit }
+{}
 
 /// The history with events that may follow, stamped by a worker, is legal, and units are left unless the search is done.
 pub fn histories_go_on()

@@ -4,10 +4,16 @@
 //! This crate changes no state, and knows neither who solves a task nor who is handed one.
 #![tactic(auto)]
 
-mod judging;
+mod answers;
+mod floors;
 mod laws;
+mod nodes;
 mod refused;
+mod separations;
 
-pub use judging::{judge_floor, judge_node};
-pub use laws::{floors_follow, histories_go_on, nodes_follow, separations_follow, stops_follow};
+pub use answers::{judge_floor, judge_node, judge_separation, judge_stop};
+pub use laws::{
+    floors_follow, histories_go_on, nodes_follow, separations_follow, states_fit, stops_follow,
+};
+pub use nodes::box_of;
 pub use refused::Refused;

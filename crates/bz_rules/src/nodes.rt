@@ -1,75 +1,27 @@
-//! By what answers are refused: each judge gives the first rule that doesn't hold.
-ghost use Rattle.std.specs.Prelude.{◌≡◌, ◌↔◌, ◌≤◌, ◌<◌, ◌∷◌, [], false, true, IsTrue, IfOk, None, Some, length};
+//! By what is carried for a node is refused.
+ghost use Rattle.std.specs.Prelude.{◌≡◌, ◌↔◌, IsTrue, IfOk};
 ghost use Rattle.std.specs.List.{AllByRecursion, slice_get};
 ghost use Rattle.std.specs.Option.{option_copied};
-ghost use Rattle.bz_first.specs.Tests.{Judges, test};
-ghost use Rattle.bz_std.specs.Tasks.{IsBoxOf, IsCutOfSplit};
 ghost use Rattle.bz_algebra.specs.Numbers.{IsNarrow};
+ghost use Rattle.bz_first.specs.Tests.{Judges};
 ghost use Rattle.bz_tree.specs.Ends.{box_of as box_held};
-ghost use Rattle.bz_history.specs.States.{box_of, is_done, is_live, mode_of};
+ghost use Rattle.bz_std.specs.Tasks.{IsBoxOf, IsCutOfSplit};
+ghost use Rattle.bz_history.specs.States.{box_of};
 ghost use Rattle.bz_history.specs.Steps.{AreFloorsReady};
-ghost use Rattle.bz_event.specs.Stops.{StopsSomeTask};
-ghost use Rattle.bz_rules.specs.declared.refused.Refused.TheVariants as refused;
-ghost use Rattle.bz_rules.specs.Rules.{IsBlock, carried_rules, cut_rules, fill_rules, floor_rules, is_running, needed_rules, node_rules, place_of_closing, place_of_end, place_of_fill, place_of_live, place_of_post, separation_rules, stop_rules, stopped_rules, waiting_rules};
-ghost use Rattle.bz_rules.specs.Shapes.{FitsSplit, IsRegionOf};
+ghost use Rattle.bz_rules.specs.Rules.{node_rules, place_of_live, waiting_rules};
+ghost use Rattle.bz_rules.specs.Shapes.{FitsSplit};
 
+use crate::floors::judge_running;
 use crate::refused::Refused;
 use bz_first::judge;
-use bz_history::{Closing, Node, Post, Region};
-use bz_model::{Master, Split};
+use bz_history::{Node, Post, Region};
+use bz_model::Split;
 use bz_num::OutOfMemory;
 use bz_state::Progress;
-use bz_std::{is_floor_lp, is_node_lp, is_separation_lp};
+use bz_std::is_node_lp;
 use bz_tableau::Lp;
 use bz_tree::NodeBox;
 use std::alloc::Global;
-
-/// Tests that the search isn't done; else its last entry ended it.
-fn judge_running(progress: &Progress) -> Result<(), Refused>
-    ensures { Judges (is_running progress.now.state ∷ []) result }
-{
-    if progress.is_done() {
-        return Err(Refused::Late {
-            ended_by: progress.entries().saturating_sub(1),
-        });
-    }
-    Ok(())
-}
-
-/// Whether the block is one of the split's.
-fn has_block(split: &Split, block: u32) -> bool
-    ensures { IsTrue result ↔ IsBlock split.now block }
-{
-    0 < block && block <= split.blocks()
-}
-
-/// Judges what is carried for the floor of a block.
-pub fn judge_floor(
-    split: &Split,
-    progress: &Progress,
-    block: u32,
-    lp: &Lp,
-) -> Result<(), Refused>
-    ensures { Judges (floor_rules split.now progress.now.state block lp.now) result }
-{
-    judge_running(progress)?;
-    if !has_block(split, block) {
-        return Err(Refused::Unfit);
-    }
-    let floors = progress.floors();
-    if block as usize <= floors.len() {
-        return Err(Refused::Late {
-            ended_by: floors[block as usize - 1],
-        });
-    }
-    if let Some(ray) = progress.ray() {
-        return Err(Refused::Late { ended_by: ray.at });
-    }
-    if block as usize != floors.len() + 1 {
-        return Err(Refused::Unfit);
-    }
-    judge(is_floor_lp(split, block, lp), Refused::Unfit)
-}
 
 /// The place of the post with this number.
 fn live_place(posts: &[Post], live: Option<u32>) -> u64
@@ -138,13 +90,6 @@ fn node_at(progress: &Progress, number: u32) -> Option<&Node>
     progress.nodes().get(number as usize)
 }
 
-/// The post with this number.
-fn post_at(progress: &Progress, number: u32) -> Option<&Post>
-    ensures { option_copied result ≡ slice_get progress.now.state.posts number }
-{
-    progress.posts().get(number as usize)
-}
-
 /// The box of a region. It takes memory.
 pub fn box_of(alloc: Global, region: &Region) -> Result<NodeBox, OutOfMemory>
     requires lower { AllByRecursion IsNarrow region.now.lower }
@@ -158,7 +103,7 @@ pub fn box_of(alloc: Global, region: &Region) -> Result<NodeBox, OutOfMemory>
 }
 
 /// Judges what is carried for a node over the first `front` cuts. It takes memory for the node's box.
-pub fn judge_node(
+pub(crate) fn judge_node_over(
     alloc: Global,
     split: &Split,
     progress: &Progress,
