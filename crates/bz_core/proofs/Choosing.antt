@@ -1,27 +1,16 @@
 -- The first node and the first separation that aren't handed out.
-use Rattle.std.proofs.Common.{◌≡◌, ◌<◌, ◌+◌, ℕ, zero, suc, Bool, true, List, refl, ap, subst, arith, inl, inr}
+use Rattle.std.proofs.Common.{◌≡◌, ◌<◌, ◌+◌, ℕ, Bool, true, List, subst, arith, inl, inr}
 use Rattle.std.specs.Prelude.{◌⊎◌, Option, Some, None, IfNone, IfSome}
 use Rattle.std.specs.List.{slice_get}
 use Rattle.bz_history.specs.declared.state.Post.{Post}
 use Rattle.bz_history.specs.States.{is_live}
 use Rattle.bz_history.specs.Steps.{IsAt}
-use Rattle.bz_history.proofs.Lists.{at_one}
+use Rattle.bz_history.proofs.Lists.{at_one, below_next}
 use Rattle.bz_core.specs.Handing.{IsFreeBlock, IsFreeSeparation}
-
--- a number below the next is below, or it
-below_next : (k n : ℕ) → k < n + 1 → (k < n) ⊎ (k ≡ n)
-below_next zero zero h = inr refl
-below_next zero (suc n) h = inl (omega arith)
-below_next (suc k) zero h = absurd (omega arith)
-below_next (suc k) (suc n) h = later (below_next k n (omega arith))
-  where
-    later : (k < n) ⊎ (k ≡ n) → (suc k < suc n) ⊎ (suc k ≡ suc n)
-    later (inl less) = inl (omega arith)
-    later (inr same) = inr (ap suc same)
 
 -- what none before has, and it hasn't, none before the next has
 pub none_before : (P : ℕ → Type 0) (n : ℕ) → ((k : ℕ) → k < n → P k → ⊥) → (P n → ⊥) → (k : ℕ) → k < n + 1 → P k → ⊥
-none_before P n before here k below h = by (below_next k n below)
+none_before P n before here k below h = by (below_next k n (omega arith))
   where
     by : (k < n) ⊎ (k ≡ n) → ⊥
     by (inl less) = before k less h

@@ -7,6 +7,7 @@
 mod answering;
 mod appending;
 mod choices;
+mod copies;
 mod giving_floors;
 mod handing;
 mod handouts;

@@ -2,6 +2,7 @@ pub mod BestSteps
 pub mod CertificateTrees
 pub mod CoverSteps
 pub mod FinishedSearches
+pub mod FloorSteps
 pub mod FrontSteps
 pub mod Growing
 pub mod LeafSteps

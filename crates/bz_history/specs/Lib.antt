@@ -1,6 +1,7 @@
 pub mod Certificates
 pub mod Covers
 pub mod Finished
+pub mod Floors
 pub mod Fronts
 pub mod Histories
 pub mod Leaves

@@ -6,8 +6,9 @@ mod laws;
 mod state;
 
 pub use laws::{
-    certificates_are_right, counts_rise, finished_searches_are_true, fronts_rise, leaves_are_right,
-    lives_are_right, nodes_are_few, nothing_better_is_lost, places_are_right, pools_are_right,
-    posts_are_right, rays_are_true, sizes_are_right, trees_are_whole,
+    certificates_are_right, counts_rise, finished_searches_are_true, floors_come_first,
+    fronts_rise, leaves_are_right, lives_are_right, nodes_are_few, nothing_better_is_lost,
+    places_are_right, pools_are_right, posts_are_right, rays_are_true, sizes_are_right,
+    trees_are_whole,
 };
 pub use state::{Closing, FallingRay, Filled, Node, Post, Region, Stopped};
