@@ -1,3 +1,4 @@
 pub mod Choosing
 pub mod Chosen
+pub mod FloorsGiven
 pub mod Marking

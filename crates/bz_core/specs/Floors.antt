@@ -1,5 +1,5 @@
 -- Events of a floor's answer.
-use Rattle.std.specs.Prelude.{ℕ, ◌≤◌}
+use Rattle.std.specs.Prelude.{◌≤◌}
 use Rattle.bz_cut.specs.declared.Cut.{Cut}
 use Rattle.bz_event.specs.declared.events.Event.{Event}
 use Rattle.bz_event.specs.declared.events.Event.TheVariants as event

@@ -1,5 +1,5 @@
 -- What an answer to a task makes of a search.
-use Rattle.std.specs.Prelude.{ℕ, ◌≡◌, List, ◌++◌, length}
+use Rattle.std.specs.Prelude.{◌≡◌, List, ◌++◌, length}
 use Rattle.bz_first.specs.Tests.{AllHold, IsFirstFault}
 use Rattle.bz_event.specs.declared.events.Event.{Event}
 use Rattle.bz_event.specs.declared.events.Stamp.{Stamp}

@@ -1,3 +1,4 @@
+pub mod Answering
 pub mod Floors
 pub mod Giving
 pub mod Handing

@@ -7,6 +7,7 @@
 mod answering;
 mod appending;
 mod choices;
+mod giving_floors;
 mod handing;
 mod handouts;
 mod outcomes;
