@@ -1,5 +1,6 @@
 pub mod BestPosts
 pub mod Completing
+pub mod Decided
 pub mod FittingStates
 pub mod FloorsFollow
 pub mod GoingOn

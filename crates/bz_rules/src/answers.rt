@@ -1,53 +1,21 @@
-//! By what answers are refused: each judge gives the first rule that doesn't hold.
+//! By what answers of separations and stops are refused: each judge gives the first rule that doesn't hold.
 ghost use Rattle.std.specs.Prelude.{◌≡◌, IfOk};
 ghost use Rattle.bz_first.specs.Tests.{Judges};
 ghost use Rattle.bz_event.specs.declared.tasks.TaskName.TheVariants as name;
 ghost use Rattle.bz_event.specs.Stops.{StopsSomeTask};
-ghost use Rattle.bz_rules.specs.Rules.{floor_answer_rules, node_answer_rules, separation_answer_rules, stop_answer_rules};
+ghost use Rattle.bz_rules.specs.Rules.{separation_answer_rules, stop_answer_rules};
 ghost use Rattle.bz_rules.specs.Shapes.{FitsSplit};
 
-use crate::floors::{judge_next_floor, judge_running};
-use crate::nodes::judge_node_over;
+use crate::floors::{judge_floor, judge_running};
+use crate::nodes::judge_node;
 use crate::refused::Refused;
 use crate::separations::{judge_at_post, judge_stop_at_post, post_at};
-use bz_event::{FloorAnswer, NodeAnswer, SepAnswer, Solved, TaskName};
+use bz_event::{SepAnswer, Solved, TaskName};
 use bz_model::Split;
 use bz_num::OutOfMemory;
 use bz_state::Progress;
 use bz_tableau::WideAt;
 use std::alloc::Global;
-
-/// Judges an answer of a floor.
-pub fn judge_floor(
-    split: &Split,
-    progress: &Progress,
-    s: &Solved<FloorAnswer>,
-) -> Result<(), Refused>
-    ensures { Judges (floor_answer_rules split.now progress.now.state s.now) result }
-{
-    match s.task {
-        TaskName::Floor { block } => judge_next_floor(split, progress, block, &s.lp),
-        _ => Err(Refused::Unfit),
-    }
-}
-
-/// Judges an answer of a node. It takes memory for the node's box.
-pub fn judge_node(
-    alloc: Global,
-    split: &Split,
-    progress: &Progress,
-    s: &Solved<NodeAnswer>,
-) -> Result<Result<(), Refused>, OutOfMemory>
-    requires { FitsSplit split.now progress.now.state }
-    ensures { IfOk result (λ judged. Judges (node_answer_rules split.now progress.now.state s.now) judged) }
-{
-    match s.task {
-        TaskName::Node { node, front } => {
-            judge_node_over(alloc, split, progress, node, front, &s.lp)
-        }
-        _ => Ok(Err(Refused::Unfit)),
-    }
-}
 
 /// Judges an answer of a separation.
 pub fn judge_separation(
@@ -102,10 +70,8 @@ pub fn judge_stop(
     ensures { IfOk result (λ judged. Judges (stop_answer_rules split.now progress.now.state s.now) judged) }
 {
     match s.task {
-        TaskName::Floor { block } => Ok(judge_next_floor(split, progress, block, &s.lp)),
-        TaskName::Node { node, front } => {
-            judge_node_over(alloc, split, progress, node, front, &s.lp)
-        }
+        TaskName::Floor { block } => Ok(judge_floor(split, progress, block, &s.lp)),
+        TaskName::Node { node, front } => { judge_node(alloc, split, progress, node, front, &s.lp) }
         TaskName::Sep { post, block } => {
             Ok(judge_stopped_separation(split, progress, post, block, s))
         }

@@ -30,12 +30,7 @@ pub(crate) fn has_block(split: &Split, block: u32) -> bool
 }
 
 /// Judges what is carried for the floor of a block.
-pub(crate) fn judge_next_floor(
-    split: &Split,
-    progress: &Progress,
-    block: u32,
-    lp: &Lp,
-) -> Result<(), Refused>
+pub fn judge_floor(split: &Split, progress: &Progress, block: u32, lp: &Lp) -> Result<(), Refused>
     ensures { Judges (floor_rules split.now progress.now.state block lp.now) result }
 {
     judge_running(progress)?;

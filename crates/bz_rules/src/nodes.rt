@@ -103,7 +103,7 @@ pub fn box_of(alloc: Global, region: &Region) -> Result<NodeBox, OutOfMemory>
 }
 
 /// Judges what is carried for a node over the first `front` cuts. It takes memory for the node's box.
-pub(crate) fn judge_node_over(
+pub fn judge_node(
     alloc: Global,
     split: &Split,
     progress: &Progress,

@@ -2,7 +2,7 @@ use Rattle.std.proofs.Common.{sym}
 use Rattle.std.specs.List.{slice_get}
 use Rattle.bz_rules.specs.Rules.{waiting_rules}
 use Rattle.bz_rules.proofs.Judged.{judged_there, nowhere}
-use Rattle.bz_rules.proofs.nodes.judge_node_over.Goals as goal
+use Rattle.bz_rules.proofs.nodes.judge_node.Goals as goal
 
 pub box_of-requires-clause-lower : goal.box_of-requires-clause-lower
 box_of-requires-clause-lower c = (c.requires.regions c.args.number c.in-Some.node.now (sym c.in-Some.ensures)).lower
