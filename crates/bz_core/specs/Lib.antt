@@ -1,4 +1,5 @@
 pub mod Answering
+pub mod Bests
 pub mod Copies
 pub mod Floors
 pub mod Giving
