@@ -1,4 +1,6 @@
+pub mod AppendedSteps
 pub mod BestSteps
+pub mod BudgetSteps
 pub mod CertificateTrees
 pub mod CoverSteps
 pub mod FinishedSearches

@@ -1,3 +1,4 @@
+pub mod Budgets
 pub mod Certificates
 pub mod Covers
 pub mod Finished

@@ -1,4 +1,5 @@
 //! What is true of every legal history.
+ghost use Rattle.bz_history.specs.Budgets.{EnoughIsEnough};
 ghost use Rattle.bz_history.specs.Certificates.{CertificatesAreRight};
 ghost use Rattle.bz_history.specs.Covers.{NothingBetterIsLost};
 ghost use Rattle.bz_history.specs.Finished.{FinishedSearchesAreTrue, RaysAreTrue};
@@ -8,7 +9,7 @@ ghost use Rattle.bz_history.specs.Leaves.{LeavesAreRight};
 ghost use Rattle.bz_history.specs.Lives.{LivesAreRight};
 ghost use Rattle.bz_history.specs.Measures.{NodesAreFew};
 ghost use Rattle.bz_history.specs.Places.{PlacesAreRight};
-ghost use Rattle.bz_history.specs.Pools.{PoolsAreRight};
+ghost use Rattle.bz_history.specs.Pools.{AppendedCutsAreOfBases, PoolsAreRight};
 ghost use Rattle.bz_history.specs.Posts.{PostsAreRight};
 ghost use Rattle.bz_history.specs.Sizes.{SizesAreRight};
 ghost use Rattle.bz_history.specs.Trees.{TreesAreWhole};
@@ -22,6 +23,11 @@ pub fn counts_rise()
 /// so, and no two are the same.
 pub fn pools_are_right()
     ensures { PoolsAreRight }
+{}
+
+/// Each cut after the floors is that of a basis of its block's separation, and all are of the mode of now.
+pub fn appended_cuts_are_of_bases()
+    ensures { AppendedCutsAreOfBases }
 {}
 
 /// Each posted point, live or ended, lies in its node's box and meets the cuts of its own front; in mode Cost its leaf bounds
@@ -60,6 +66,12 @@ pub fn nodes_are_few()
 /// The units are those of the closed nodes and of the appended cuts, and never more than the budget.
 pub fn sizes_are_right()
     ensures { SizesAreRight }
+{}
+
+/// While a node is open, fewer units are spent than a number that the root's box and the sizes of the blocks tell: a budget
+/// of so many is never spent with a node open.
+pub fn enough_is_enough()
+    ensures { EnoughIsEnough }
 {}
 
 /// Each place in the history that the state keeps is that of the entry which it speaks of.
