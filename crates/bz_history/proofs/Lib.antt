@@ -10,6 +10,7 @@ pub mod LeafSteps
 pub mod Lists
 pub mod LiveSteps
 pub mod MeasureSteps
+pub mod OutcomeSteps
 pub mod PlaceSteps
 pub mod PoolSteps
 pub mod PostSteps

@@ -7,6 +7,7 @@ pub mod Histories
 pub mod Leaves
 pub mod Lives
 pub mod Measures
+pub mod Outcomes
 pub mod Places
 pub mod Pools
 pub mod Posts

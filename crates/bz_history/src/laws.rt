@@ -8,6 +8,7 @@ ghost use Rattle.bz_history.specs.Histories.{CountsRise};
 ghost use Rattle.bz_history.specs.Leaves.{LeavesAreRight};
 ghost use Rattle.bz_history.specs.Lives.{LivesAreRight};
 ghost use Rattle.bz_history.specs.Measures.{NodesAreFew};
+ghost use Rattle.bz_history.specs.Outcomes.{OutcomesAreTrue};
 ghost use Rattle.bz_history.specs.Places.{PlacesAreRight};
 ghost use Rattle.bz_history.specs.Pools.{AppendedCutsAreOfBases, PoolsAreRight};
 ghost use Rattle.bz_history.specs.Posts.{PostsAreRight};
@@ -100,4 +101,11 @@ pub fn rays_are_true()
 /// certificate of the search passes and fits, whichever its verdict.
 pub fn certificates_are_right()
     ensures { CertificatesAreRight }
+{}
+
+/// What a search has come to is true: its best post is optimal, or no point is feasible, or the model is unbounded, or its
+/// units are spent while a node is open, with a budget that is not enough, or its last entry is a true stop at a wide number.
+/// It runs exactly until it is done.
+pub fn outcomes_are_true()
+    ensures { OutcomesAreTrue }
 {}

@@ -7,6 +7,6 @@ mod state;
 
 pub use laws::{
     appended_cuts_are_of_bases, certificates_are_right, counts_rise, enough_is_enough, finished_searches_are_true, fronts_rise, leaves_are_right,
-    lives_are_right, nodes_are_few, nothing_better_is_lost, places_are_right, pools_are_right,
+    lives_are_right, nodes_are_few, nothing_better_is_lost, outcomes_are_true, places_are_right, pools_are_right,
     posts_are_right, rays_are_true, sizes_are_right, trees_are_whole,
 };
