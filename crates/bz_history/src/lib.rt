@@ -10,3 +10,4 @@ pub use laws::{
     lives_are_right, nodes_are_few, nothing_better_is_lost, outcomes_are_true, places_are_right, pools_are_right,
     posts_are_right, rays_are_true, sizes_are_right, trees_are_whole,
 };
+pub use state::{Closing, FallingRay, Filled, Node, Outcome, Post, Region, Stopped};
