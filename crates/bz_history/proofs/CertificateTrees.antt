@@ -57,7 +57,7 @@ use Rattle.bz_history.proofs.TreeSteps.{trees_are_whole}
 
 -- ---- there is a tree
 -- a node that is there
-node_at : (nodes : List Node) (n : ℕ) → n < length nodes → (x : Node) × IsAt nodes n x
+pub node_at : (nodes : List Node) (n : ℕ) → n < length nodes → (x : Node) × IsAt nodes n x
 node_at [] n l = absurd (omega arith)
 node_at (x ∷ nodes) zero l = (x, refl)
 node_at (x ∷ nodes) (suc n) l = node_at nodes n (omega arith)
@@ -119,7 +119,7 @@ tip_leaf d root cuts nodes n region leaf tree here t =
     (leaf_of d cuts nodes n t.node.region t.closing t.front leaf t.by_leaf (subst (IsEndedRight d cuts nodes n t.node.region) t.closed (tree.each n t.node t.is_node)))
 
 -- the split of a fork, over the region of its node
-fork_split : (d : Decomposition) (root : Region) (cuts : List Cut) (nodes : List Node) (n position : ℕ) (left right : ℤ) (kids : ℕ) (region : Region) → IsTree d root cuts nodes → HasRegion nodes n region → IsForkAt nodes n position left right kids → IsSplitAt d nodes n region position left kids
+pub fork_split : (d : Decomposition) (root : Region) (cuts : List Cut) (nodes : List Node) (n position : ℕ) (left right : ℤ) (kids : ℕ) (region : Region) → IsTree d root cuts nodes → HasRegion nodes n region → IsForkAt nodes n position left right kids → IsSplitAt d nodes n region position left kids
 fork_split d root cuts nodes n position left right kids region tree here f =
     let own : f.node.region ≡ region = ap (λ (x : Node). x.region) (at_one nodes n f.node here.node f.is_node here.is_node) ∙ here.region_is in
     subst (λ (r : Region). IsSplitAt d nodes n r position left kids) own

@@ -1,6 +1,7 @@
 pub mod AppendedSteps
 pub mod BestSteps
 pub mod BudgetSteps
+pub mod CertificateShapes
 pub mod CertificateTrees
 pub mod CoverSteps
 pub mod FinishedSearches
@@ -18,4 +19,5 @@ pub mod RaySteps
 pub mod SizeSteps
 pub mod SplitColumns
 pub mod Stamps
+pub mod TreeSizes
 pub mod TreeSteps

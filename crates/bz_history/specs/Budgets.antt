@@ -28,3 +28,7 @@ abbrev pub EnoughIsEnough : Type 0
 EnoughIsEnough =
     (d : Decomposition) (budget : ℕ) (root : Region) (es : List Entry) (t : State) → IsReplay d budget root es t →
     list_any is_open t.nodes ≡ true → t.units < enough d root
+
+-- the greatest budget that a search is begun with
+abbrev pub budget_limit : ℕ
+budget_limit = 4000

@@ -1,5 +1,5 @@
 -- What a search without an open node has to show: its tree, its cuts, and the parts of the best post.
-use Rattle.std.specs.Prelude.{ℕ, suc, ◌≡◌, ℤ, pos, ◌+ℤ◌, false, List, [], Some, None}
+use Rattle.std.specs.Prelude.{ℕ, suc, ◌≡◌, ◌≤◌, ℤ, pos, ◌+ℤ◌, false, List, [], Some, None}
 use Rattle.std.specs.List.{list_any}
 use Rattle.bz_model.specs.declared.Master.{Master}
 use Rattle.bz_model.specs.Decomposed.{IsDecomposed}
@@ -12,6 +12,7 @@ use Rattle.bz_cert.specs.declared.records.Certificate.{Certificate}
 use Rattle.bz_cert.specs.declared.records.Verdict.TheVariants as verdict
 use Rattle.bz_cert.specs.Fits.{Fits}
 use Rattle.bz_cert.specs.Passing.{Passes}
+use Rattle.bz_cert.specs.Shapes.{IsShaped}
 use Rattle.bz_event.specs.declared.events.Entry.{Entry}
 use Rattle.bz_event.specs.declared.events.How.TheVariants as how
 use Rattle.bz_event.specs.Floors.{placed}
@@ -21,6 +22,7 @@ use Rattle.bz_history.specs.declared.state.FallingRay.{FallingRay}
 use Rattle.bz_history.specs.declared.state.Node.{Node}
 use Rattle.bz_history.specs.declared.state.Post.{Post}
 use Rattle.bz_history.specs.declared.state.Region.{Region}
+use Rattle.bz_history.specs.Budgets.{budget_limit}
 use Rattle.bz_history.specs.Finished.{completions, parts_of}
 use Rattle.bz_history.specs.Histories.{IsReplay}
 use Rattle.bz_history.specs.States.{State, is_open, mode_of}
@@ -108,3 +110,18 @@ abbrev pub CertificatesAreRight : Type 0
 CertificatesAreRight =
     (d : Decomposition) (budget : ℕ) (root : Region) (es : List Entry) (t : State) → IsDecomposed d.model d.part →
     IsReplay d budget root es t → CertificatesPass d t
+
+-- Each certificate of the search, by its verdict, has what that needs, nothing else, and no wide number; its cuts and nodes are
+-- few enough to be written.
+pub record CertificatesAreShaped (d : Decomposition) (t : State) : Type 0 where
+  pub optimal : mode_of t ≡ mode.Cost → (post : Post) → IsBest t post → (tree : Tree) → IsTreeAt t.nodes 0 tree →
+      (c : Certificate) → IsOptimalCertificate d t.cuts post tree c → IsShaped c
+  pub infeasible : (tree : Tree) → IsTreeAt t.nodes 0 tree →
+      (c : Certificate) → IsInfeasibleCertificate t.cuts tree c → IsShaped c
+  pub unbounded : (post : Post) → (ray : FallingRay) → t.ray ≡ Some ray →
+      (c : Certificate) → IsUnboundedCertificate d post ray c → IsShaped c
+
+abbrev pub CertificatesHaveTheirShape : Type 0
+CertificatesHaveTheirShape =
+    (d : Decomposition) (budget : ℕ) (root : Region) (es : List Entry) (t : State) → IsDecomposed d.model d.part →
+    budget ≤ budget_limit → IsReplay d budget root es t → CertificatesAreShaped d t

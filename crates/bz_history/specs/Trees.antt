@@ -82,3 +82,9 @@ abbrev pub TreesAreWhole : Type 0
 TreesAreWhole =
     (d : Decomposition) (budget : ℕ) (root : Region) (es : List Entry) (t : State) → IsReplay d budget root es t →
     IsTree d root t.cuts t.nodes
+
+-- Each node is a side of one other at most.
+abbrev pub ParentsAreOne : Type 0
+ParentsAreOne =
+    (d : Decomposition) (budget : ℕ) (root : Region) (es : List Entry) (t : State) → IsReplay d budget root es t →
+    (m k n : ℕ) → IsParent t.nodes m n → IsParent t.nodes k n → m ≡ k

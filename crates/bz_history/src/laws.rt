@@ -1,6 +1,6 @@
 //! What is true of every legal history.
 ghost use Rattle.bz_history.specs.Budgets.{EnoughIsEnough};
-ghost use Rattle.bz_history.specs.Certificates.{CertificatesAreRight};
+ghost use Rattle.bz_history.specs.Certificates.{CertificatesAreRight, CertificatesHaveTheirShape};
 ghost use Rattle.bz_history.specs.Covers.{NothingBetterIsLost};
 ghost use Rattle.bz_history.specs.Finished.{FinishedSearchesAreTrue, RaysAreTrue};
 ghost use Rattle.bz_history.specs.Fronts.{FrontsRise};
@@ -13,7 +13,7 @@ ghost use Rattle.bz_history.specs.Places.{PlacesAreRight};
 ghost use Rattle.bz_history.specs.Pools.{AppendedCutsAreOfBases, PoolsAreRight};
 ghost use Rattle.bz_history.specs.Posts.{PostsAreRight};
 ghost use Rattle.bz_history.specs.Sizes.{SizesAreRight};
-ghost use Rattle.bz_history.specs.Trees.{TreesAreWhole};
+ghost use Rattle.bz_history.specs.Trees.{ParentsAreOne, TreesAreWhole};
 
 /// The counts of each worker's stamps are 0, 1, 2 and on, each once and in order.
 pub fn counts_rise()
@@ -41,6 +41,11 @@ pub fn posts_are_right()
 /// that holds over its own front.
 pub fn trees_are_whole()
     ensures { TreesAreWhole }
+{}
+
+/// Each node is a side of one other at most.
+pub fn parents_are_one()
+    ensures { ParentsAreOne }
 {}
 
 /// Each closing leaf is empty, or its bound is no less than the value of the best post now.
@@ -108,4 +113,10 @@ pub fn certificates_are_right()
 /// It runs exactly until it is done.
 pub fn outcomes_are_true()
     ensures { OutcomesAreTrue }
+{}
+
+/// With a budget within the limit, each certificate of a search has what its verdict needs, nothing else and no wide number, and
+/// few enough cuts and nodes to be written.
+pub fn certificates_have_their_shape()
+    ensures { CertificatesHaveTheirShape }
 {}
