@@ -1,5 +1,5 @@
 -- What the lists of a search with a legal history show.
-use Rattle.std.proofs.Common.{◌≡◌, ◌∙◌, refl, sym, ap, subst, ℕ, zero, suc, ◌<◌, List, [], ◌∷◌, inl, inr, arith, ℤ, pos, ◌+ℤ◌, ◌≤ℤ◌, ◌<ℤ◌}
+use Rattle.std.proofs.Common.{◌≡◌, ◌∙◌, refl, sym, ap, subst, ℕ, zero, suc, ◌<◌, ◌≤◌, List, [], ◌∷◌, inl, inr, arith, ℤ, pos, ◌+ℤ◌, ◌≤ℤ◌, ◌<ℤ◌}
 use Rattle.std.proofs.lemmas.Int.{ints}
 use Rattle.std.proofs.lemmas.Option.{slice_get_within}
 use Rattle.std.specs.Prelude.{◌⊎◌, Option, Some, None, IsSome, false, true, is_none, length, slice_index_or}
@@ -20,6 +20,7 @@ use Rattle.bz_tree.proofs.NarrowSides.{narrow_at}
 use Rattle.bz_cert.specs.declared.records.Certificate.{Certificate}
 use Rattle.bz_cert.specs.Fits.{Fits}
 use Rattle.bz_cert.specs.Passing.{Passes}
+use Rattle.bz_cert.specs.Shapes.{IsShaped}
 use Rattle.bz_event.specs.declared.events.Entry.{Entry}
 use Rattle.bz_event.specs.declared.events.How.{How}
 use Rattle.bz_event.specs.declared.events.How.TheVariants as how
@@ -28,13 +29,15 @@ use Rattle.bz_history.specs.declared.state.FallingRay.{FallingRay}
 use Rattle.bz_history.specs.declared.state.Node.{Node}
 use Rattle.bz_history.specs.declared.state.Post.{Post}
 use Rattle.bz_history.specs.declared.state.Region.{Region}
-use Rattle.bz_history.specs.Certificates.{CertificatesPass, IsInfeasibleCertificate, IsOptimalCertificate, IsTreeAt, IsUnboundedCertificate, without_etas}
+use Rattle.bz_history.specs.Certificates.{CertificatesAreShaped, CertificatesPass, IsInfeasibleCertificate, IsOptimalCertificate, IsTreeAt, IsUnboundedCertificate, without_etas}
 use Rattle.bz_history.specs.Histories.{IsReplay}
 use Rattle.bz_history.specs.Posts.{IsPostOf}
 use Rattle.bz_history.specs.States.{State, is_open, mode_for, mode_of}
 use Rattle.bz_history.specs.Steps.{IsAt, IsFilled}
 use Rattle.bz_history.specs.Trees.{IsEnd, IsEndedRight, IsInside, IsSplitAt, IsTree}
 use Rattle.bz_history.proofs.BestSteps.{best_is_filled}
+use Rattle.bz_history.specs.Budgets.{budget_limit}
+use Rattle.bz_history.proofs.CertificateShapes.{certificates_have_their_shape}
 use Rattle.bz_history.proofs.CertificateTrees.{certificates_are_right}
 use Rattle.bz_history.proofs.FinishedSearches.{none_open}
 use Rattle.bz_history.proofs.Lists.{at_one}
@@ -80,30 +83,42 @@ all_closed d root cuts nodes lower upper tree none = record {
 }
 
 -- ---- what the lists show
+-- the certificate passes, fits and has its shape
+pub record IsGood (d : Decomposition) (c : Certificate) : Type 0 where
+  pub passes : Passes d.model d.part c
+  pub fits : Fits d.model d.part c
+  pub shaped : IsShaped c
+
+good : (d : Decomposition) (c : Certificate) → Passes d.model d.part c × Fits d.model d.part c → IsShaped c → IsGood d c
+good d c both shaped = record { passes = both.0; fits = both.1; shaped = shaped }
+
 pub record IsLawful (d : Decomposition) (cuts : List Cut) (nodes : List Node) (posts : List Post) (best : Option ℕ) (ray : Option FallingRay) : Type 0 where
   pub has_tree : list_any is_open nodes ≡ false → (tree : Tree) × IsTreeAt nodes 0 tree
   pub closed : list_any is_open nodes ≡ false → AreClosed nodes
   pub has_post : (i : ℕ) → best ≡ Some i → (post : Post) × IsAt posts i post
   pub has_value : ray ≡ None → (i : ℕ) (post : Post) → IsAt posts i post → HasValue d post.point
   pub has_places : (r : FallingRay) → ray ≡ Some r → HasPlaces d r
-  pub optimal : ray ≡ None → (i : ℕ) → best ≡ Some i → (post : Post) → IsAt posts i post → (tree : Tree) → IsTreeAt nodes 0 tree → (c : Certificate) → IsOptimalCertificate d cuts post tree c → Passes d.model d.part c × Fits d.model d.part c
-  pub infeasible : best ≡ None → (tree : Tree) → IsTreeAt nodes 0 tree → (c : Certificate) → IsInfeasibleCertificate cuts tree c → Passes d.model d.part c × Fits d.model d.part c
-  pub unbounded : (i : ℕ) → best ≡ Some i → (post : Post) → IsAt posts i post → (r : FallingRay) → ray ≡ Some r → (c : Certificate) → IsUnboundedCertificate d post r c → Passes d.model d.part c × Fits d.model d.part c
+  pub optimal : ray ≡ None → (i : ℕ) → best ≡ Some i → (post : Post) → IsAt posts i post → (tree : Tree) → IsTreeAt nodes 0 tree → (c : Certificate) → IsOptimalCertificate d cuts post tree c → IsGood d c
+  pub infeasible : best ≡ None → (tree : Tree) → IsTreeAt nodes 0 tree → (c : Certificate) → IsInfeasibleCertificate cuts tree c → IsGood d c
+  pub unbounded : (i : ℕ) → best ≡ Some i → (post : Post) → IsAt posts i post → (r : FallingRay) → ray ≡ Some r → (c : Certificate) → IsUnboundedCertificate d post r c → IsGood d c
 
-state_lawful : (d : Decomposition) (budget : ℕ) (root : Region) (es : List Entry) (t : State) → IsDecomposed d.model d.part → IsReplay d budget root es t → IsLawful d t.cuts t.nodes t.posts t.best t.ray
-state_lawful d budget root es t dec r = record {
+state_lawful : (d : Decomposition) (budget : ℕ) (root : Region) (es : List Entry) (t : State) → IsDecomposed d.model d.part → budget ≤ budget_limit → IsReplay d budget root es t → IsLawful d t.cuts t.nodes t.posts t.best t.ray
+state_lawful d budget root es t dec limit r = record {
   has_tree = passing.has_tree;
   closed = all_closed d root t.cuts t.nodes r.root_is.lower r.root_is.upper (trees_are_whole d budget root es t r);
   has_post = has_post;
   has_value = has_value;
   has_places = λ x is. let own : IsRayOf d x = ray_is_right d budget root es t r x is in record { last = own.last; numbers = own.is_ray.numbers };
-  optimal = λ none i is post at tree at_first c own. passing.optimal (ap mode_for none) post (i, is, at) tree at_first c own;
-  infeasible = passing.infeasible;
-  unbounded = λ i is post at x ray_is c own. passing.unbounded post (i, is, at) x ray_is c own;
+  optimal = λ none i is post at tree at_first c own. good d c (passing.optimal (ap mode_for none) post (i, is, at) tree at_first c own) (shapes.optimal (ap mode_for none) post (i, is, at) tree at_first c own);
+  infeasible = λ none tree at_first c own. good d c (passing.infeasible none tree at_first c own) (shapes.infeasible tree at_first c own);
+  unbounded = λ i is post at x ray_is c own. good d c (passing.unbounded post (i, is, at) x ray_is c own) (shapes.unbounded post x ray_is c own);
 }
   where
     passing : CertificatesPass d t
     passing = certificates_are_right d budget root es t dec r
+
+    shapes : CertificatesAreShaped d t
+    shapes = certificates_have_their_shape d budget root es t dec limit r
 
     has_post : (i : ℕ) → t.best ≡ Some i → (post : Post) × IsAt t.posts i post
     has_post i is =
@@ -122,7 +137,7 @@ lawful d cuts nodes posts best ray dec f =
     (subst (λ (x : List Post). IsLawful d cuts nodes x f.state.best f.state.ray) f.posts_are
     (subst (λ (x : List Node). IsLawful d cuts x f.state.posts f.state.best f.state.ray) f.nodes_are
     (subst (λ (x : List Cut). IsLawful d x f.state.nodes f.state.posts f.state.best f.state.ray) f.cuts_are
-    (state_lawful d f.budget f.root f.es f.state dec f.replayed)))))
+    (state_lawful d f.budget f.root f.es f.state dec f.limit f.replayed)))))
 
 -- ---- which verdict there is
 pub without_best : (d : Decomposition) (cuts : List Cut) (nodes : List Node) (posts : List Post) (best : Option ℕ) (ray : Option FallingRay) → IsFinished d cuts nodes posts best ray → best ≡ None → list_any is_open nodes ≡ false
@@ -165,18 +180,19 @@ pub right_infeasible : (d : Decomposition) (cuts : List Cut) (nodes : List Node)
     → (c : Certificate) → ((tree : Tree) → IsTreeAt nodes 0 tree → IsInfeasibleCertificate cuts tree c) → IsRightCertificate d cuts nodes posts best ray c
 right_infeasible d cuts nodes posts best ray l none no_best c h =
     let tree : (tree : Tree) × IsTreeAt nodes 0 tree = l.has_tree none in
-    let both : Passes d.model d.part c × Fits d.model d.part c = l.infeasible no_best tree.0 tree.1 c (h tree.0 tree.1) in
-    record { is_certificate = subst (λ (o : Option ℕ). IsCertificateOf d cuts nodes posts o ray c) (sym no_best) h; passes = both.0; fits = both.1 }
+    let both : IsGood d c = l.infeasible no_best tree.0 tree.1 c (h tree.0 tree.1) in
+    record { is_certificate = subst (λ (o : Option ℕ). IsCertificateOf d cuts nodes posts o ray c) (sym no_best) h; passes = both.passes; fits = both.fits; shaped = both.shaped }
 
 pub right_optimal : (d : Decomposition) (cuts : List Cut) (nodes : List Node) (posts : List Post) (best : Option ℕ) (ray : Option FallingRay) → IsLawful d cuts nodes posts best ray → list_any is_open nodes ≡ false → (i : ℕ) → best ≡ Some i → ray ≡ None → (post : Post) → IsAt posts i post
     → (c : Certificate) → ((tree : Tree) → IsTreeAt nodes 0 tree → IsOptimalCertificate d cuts post tree c) → IsRightCertificate d cuts nodes posts best ray c
 right_optimal d cuts nodes posts best ray l none i is no_ray post at c h =
     let tree : (tree : Tree) × IsTreeAt nodes 0 tree = l.has_tree none in
-    let both : Passes d.model d.part c × Fits d.model d.part c = l.optimal no_ray i is post at tree.0 tree.1 c (h tree.0 tree.1) in
+    let both : IsGood d c = l.optimal no_ray i is post at tree.0 tree.1 c (h tree.0 tree.1) in
     record {
       is_certificate = subst (λ (o : Option ℕ). IsCertificateOf d cuts nodes posts o ray c) (sym is) (subst (λ (o : Option FallingRay). IsCertificateOf d cuts nodes posts (Some i) o c) (sym no_ray) each);
-      passes = both.0;
-      fits = both.1;
+      passes = both.passes;
+      fits = both.fits;
+      shaped = both.shaped;
     }
   where
     each : (other : Post) → IsAt posts i other → (tree : Tree) → IsTreeAt nodes 0 tree → IsOptimalCertificate d cuts other tree c
@@ -185,11 +201,12 @@ right_optimal d cuts nodes posts best ray l none i is no_ray post at c h =
 pub right_unbounded : (d : Decomposition) (cuts : List Cut) (nodes : List Node) (posts : List Post) (best : Option ℕ) (ray : Option FallingRay) → IsLawful d cuts nodes posts best ray → (i : ℕ) → best ≡ Some i → (post : Post) → IsAt posts i post → (r : FallingRay) → ray ≡ Some r
     → (c : Certificate) → IsUnboundedCertificate d post r c → IsRightCertificate d cuts nodes posts best ray c
 right_unbounded d cuts nodes posts best ray l i is post at r ray_is c h =
-    let both : Passes d.model d.part c × Fits d.model d.part c = l.unbounded i is post at r ray_is c h in
+    let both : IsGood d c = l.unbounded i is post at r ray_is c h in
     record {
       is_certificate = subst (λ (o : Option ℕ). IsCertificateOf d cuts nodes posts o ray c) (sym is) (subst (λ (o : Option FallingRay). IsCertificateOf d cuts nodes posts (Some i) o c) (sym ray_is) each);
-      passes = both.0;
-      fits = both.1;
+      passes = both.passes;
+      fits = both.fits;
+      shaped = both.shaped;
     }
   where
     each : (other : Post) → IsAt posts i other → IsUnboundedCertificate d other r c

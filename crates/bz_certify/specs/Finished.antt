@@ -18,6 +18,7 @@ use Rattle.bz_history.specs.declared.state.FallingRay.{FallingRay}
 use Rattle.bz_history.specs.declared.state.Node.{Node}
 use Rattle.bz_history.specs.declared.state.Post.{Post}
 use Rattle.bz_history.specs.declared.state.Region.{Region}
+use Rattle.bz_history.specs.Budgets.{budget_limit}
 use Rattle.bz_history.specs.Certificates.{IsInfeasibleCertificate, IsOptimalCertificate, IsTreeAt, IsUnboundedCertificate}
 use Rattle.bz_history.specs.Histories.{IsReplay}
 use Rattle.bz_history.specs.States.{State, is_open}
@@ -33,7 +34,7 @@ pub record HasPlaces (d : Decomposition) (ray : FallingRay) : Type 0 where
   pub last : ray.block ≤ blocks_of d.part
   pub numbers : length ray.d ≡ width_of d.part ray.block
 
--- Some legal history makes a state with these cuts, nodes, points, best point and direction. No node is open, or the best
+-- Some legal history, under a budget within the limit, makes a state with these cuts, nodes, points, best point and direction. No node is open, or the best
 -- point came after the direction.
 pub record IsFinished (d : Decomposition) (cuts : List Cut) (nodes : List Node) (posts : List Post) (best : Option ℕ)
     (ray : Option FallingRay) : Type 0 where
@@ -42,6 +43,7 @@ pub record IsFinished (d : Decomposition) (cuts : List Cut) (nodes : List Node) 
   pub es : List Entry
   pub state : State
   pub replayed : IsReplay d budget root es state
+  pub limit : budget ≤ budget_limit
   pub cuts_are : state.cuts ≡ cuts
   pub nodes_are : state.nodes ≡ nodes
   pub posts_are : state.posts ≡ posts
@@ -50,16 +52,18 @@ pub record IsFinished (d : Decomposition) (cuts : List Cut) (nodes : List Node) 
   pub finished : (list_any is_open nodes ≡ false) ⊎ (IsSome best × IsSome ray)
 
 -- the certificate of these, by its verdict
-abbrev pub IsCertificateOf : Decomposition → List Cut → List Node → List Post → Option ℕ → Option FallingRay → Certificate → Type 0
+abbrev pub IsCertificateOf : Decomposition → List Cut → List Node → List Post → Option ℕ → Option FallingRay →
+    Certificate → Type 0
 IsCertificateOf d cuts nodes posts None ray c = (tree : Tree) → IsTreeAt nodes 0 tree → IsInfeasibleCertificate cuts tree c
 IsCertificateOf d cuts nodes posts (Some number) None c =
     (post : Post) → IsAt posts number post → (tree : Tree) → IsTreeAt nodes 0 tree → IsOptimalCertificate d cuts post tree c
 IsCertificateOf d cuts nodes posts (Some number) (Some ray) c =
     (post : Post) → IsAt posts number post → IsUnboundedCertificate d post ray c
 
--- It is the certificate of these; it passes and fits.
+-- It is the certificate of these; it passes and fits, and has what its verdict needs and nothing else.
 pub record IsRightCertificate (d : Decomposition) (cuts : List Cut) (nodes : List Node) (posts : List Post)
     (best : Option ℕ) (ray : Option FallingRay) (c : Certificate) : Type 0 where
   pub is_certificate : IsCertificateOf d cuts nodes posts best ray c
   pub passes : Passes d.model d.part c
   pub fits : Fits d.model d.part c
+  pub shaped : IsShaped c
