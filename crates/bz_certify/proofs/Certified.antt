@@ -32,9 +32,9 @@ use Rattle.bz_history.specs.declared.state.Region.{Region}
 use Rattle.bz_history.specs.Certificates.{CertificatesAreShaped, CertificatesPass, IsInfeasibleCertificate, IsOptimalCertificate, IsTreeAt, IsUnboundedCertificate, without_etas}
 use Rattle.bz_history.specs.Histories.{IsReplay}
 use Rattle.bz_history.specs.Posts.{IsPostOf}
-use Rattle.bz_history.specs.States.{State, is_open, mode_for, mode_of}
+use Rattle.bz_history.specs.States.{State, is_open, mode_for}
 use Rattle.bz_history.specs.Steps.{IsAt, IsFilled}
-use Rattle.bz_history.specs.Trees.{IsEnd, IsEndedRight, IsInside, IsSplitAt, IsTree}
+use Rattle.bz_history.specs.Trees.{IsEnd, IsEndedRight, IsInside, IsTree}
 use Rattle.bz_history.proofs.BestSteps.{best_is_filled}
 use Rattle.bz_history.specs.Budgets.{budget_limit}
 use Rattle.bz_history.proofs.CertificateShapes.{certificates_have_their_shape}
@@ -68,7 +68,7 @@ end_closed d root cuts nodes n region kids (how.Split front basis position value
     let k : ℕ = integer_at d.model d.part position in (
       record { later = s.later; inside = slice_get_within nodes (suc kids) s.right.node s.right.is_node },
       next_narrow (coordinate root.lower k) (coordinate region.lower k) value (coordinate region.upper k) (coordinate root.upper k)
-      (narrow_at root.lower k lower) (narrow_at root.upper k upper) (inside.lower k) s.at_least s.below_upper (inside.upper k),
+          (narrow_at root.lower k lower) (narrow_at root.upper k upper) (inside.lower k) s.at_least s.below_upper (inside.upper k),
     )
 end_closed d root cuts nodes n region kids (how.Leaf front leaf) lower upper inside h = tt
 

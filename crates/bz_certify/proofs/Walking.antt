@@ -1,7 +1,7 @@
 -- The walk over closed nodes.
-use Rattle.std.proofs.Common.{◌≡◌, refl, sym, ◌∙◌, ap, subst, ℕ, zero, suc, ◌+◌, ◌-◌, ◌*◌, ◌^◌, ◌<◌, ◌≤◌, List, [], ◌∷◌, ◌++◌, length, arith, append_assoc, append-nil, pos, ◌+ℤ◌}
-use Rattle.std.specs.Prelude.{Option, Some, None}
-use Rattle.std.specs.List.{AllByRecursion, slice_get}
+use Rattle.std.proofs.Common.{◌≡◌, refl, sym, ◌∙◌, ap, subst, ℕ, zero, suc, ◌+◌, ◌-◌, ◌*◌, ◌^◌, ◌<◌, ◌≤◌, List, [], ◌∷◌, ◌++◌, length, arith, append_assoc, append-nil}
+use Rattle.std.specs.Prelude.{Some}
+use Rattle.std.specs.List.{AllByRecursion}
 use Rattle.std.proofs.Math.Nat.{pow-suc}
 use Rattle.bz_model.proofs.MeetingParts.{all_append}
 use Rattle.bz_tree.specs.declared.TreeNode.{TreeNode}
@@ -13,7 +13,7 @@ use Rattle.bz_history.specs.declared.state.Node.{Node}
 use Rattle.bz_history.specs.Certificates.{IsForkAt, IsTipAt, IsTreeAt}
 use Rattle.bz_history.specs.Steps.{IsAt}
 use Rattle.bz_history.proofs.Lists.{at_one}
-use Rattle.bz_certify.specs.Walks.{AreClosed, AreSidesLater, HasNext, IsClosedAt, IsClosingAt, IsEndOf, head_of, sides_from, sides_of}
+use Rattle.bz_certify.specs.Walks.{AreClosed, HasNext, IsClosedAt, IsClosingAt, IsEndOf, head_of, sides_from, sides_of}
 
 -- ---- what is still to come
 -- the rest is the nodes of the trees at the stacked numbers, those of the top one first
@@ -80,10 +80,10 @@ fork_step nodes ns n node closing position left right kids a b later at is fork 
     let stacked : IsPending nodes (ns ++ suc kids ∷ kids ∷ []) (preorder a ++ (preorder b ++ later)) = subst (λ (l : List ℕ). IsPending nodes l (preorder a ++ (preorder b ++ later))) (append_assoc ns (suc kids ∷ []) (kids ∷ [])) both in (
       preorder a ++ (preorder b ++ later),
       subst (λ (h : How). IsPending nodes (ns ++ sides_from closing.kids h) (preorder a ++ (preorder b ++ later))) (sym by_split)
-      (subst (λ (k : ℕ). IsPending nodes (ns ++ suc k ∷ k ∷ []) (preorder a ++ (preorder b ++ later))) (sym own) stacked),
+          (subst (λ (k : ℕ). IsPending nodes (ns ++ suc k ∷ k ∷ []) (preorder a ++ (preorder b ++ later))) (sym own) stacked),
       ap (λ (l : List TreeNode). TreeNode.Split position left right ∷ l) (append_assoc (preorder a) (preorder b) later)
-      ∙ ap (λ (r : _). TreeNode.Split position left r ∷ (preorder a ++ (preorder b ++ later))) fork.next
-      ∙ ap (λ (h : How). head_of h ∷ (preorder a ++ (preorder b ++ later))) (sym by_split),
+          ∙ ap (λ (r : _). TreeNode.Split position left r ∷ (preorder a ++ (preorder b ++ later))) fork.next
+          ∙ ap (λ (h : How). head_of h ∷ (preorder a ++ (preorder b ++ later))) (sym by_split),
     )
 
 node_step : (nodes : List Node) (ns : List ℕ) (n : ℕ) (node : Node) (closing : Closing) (tree : Tree) (later : List TreeNode) → IsAt nodes n node → node.closing ≡ Some closing → IsTreeAt nodes n tree → IsPending nodes ns later → IsStep nodes ns closing (preorder tree ++ later)

@@ -1,5 +1,5 @@
 -- What a walk over closed nodes goes by.
-use Rattle.std.specs.Prelude.{ℕ, suc, ◌<◌, ◌≡◌, ℤ, pos, ◌+ℤ◌, List, [], ◌∷◌, length, Option, Some, None}
+use Rattle.std.specs.Prelude.{ℕ, suc, ◌<◌, ◌≡◌, pos, ◌+ℤ◌, List, [], ◌∷◌, length, Option, Some, None}
 use Rattle.bz_algebra.specs.Numbers.{IsNarrow}
 use Rattle.bz_tree.specs.declared.TreeNode.{TreeNode}
 use Rattle.bz_event.specs.declared.events.How.{How}

@@ -25,7 +25,11 @@ fn head(alloc: Global, how: &How) -> Result<TreeNode, OutOfMemory>
     ensures { IfOk result (λ node. node ≡ head_of how.now) }
 {
     match how {
-        How::Split { position, value, .. } => Ok(TreeNode::Split {
+        How::Split {
+            position,
+            value,
+            ..
+        } => Ok(TreeNode::Split {
             position: *position,
             left: *value,
             right: next(*value),

@@ -1,8 +1,8 @@
 -- Appended cuts are few, and so are the units that are spent while a node is open.
-use Rattle.std.proofs.Common.{◌≡◌, refl, sym, ◌∙◌, ap, subst, ℕ, zero, suc, ◌+◌, ◌-◌, ◌*◌, ◌^◌, ◌<◌, ◌≤◌, List, [], ◌∷◌, ◌++◌, length, map, inl, inr, arith}
+use Rattle.std.proofs.Common.{◌≡◌, refl, sym, ◌∙◌, ap, subst, ℕ, zero, suc, ◌+◌, ◌-◌, ◌*◌, ◌^◌, ◌<◌, ◌≤◌, List, [], ◌∷◌, length, map, inl, inr, arith}
 use Rattle.std.proofs.lemmas.Bool.{cases_Bool, cases_eq, eq-eqb, ne_eqb}
 use Rattle.std.proofs.lemmas.List.{length-append, length-drop, length-map}
-use Rattle.std.specs.Prelude.{◌⊎◌, ◌==◌, ◌||◌, Some, Bool, true, false, cond, drop}
+use Rattle.std.specs.Prelude.{◌==◌, ◌||◌, Some, Bool, true, false, cond, drop}
 use Rattle.std.specs.List.{AllByRecursion, list_any, slice_get}
 use Rattle.bz_algebra.specs.Tableaus.{AllWithinBound, AreAlike, IsNew, NoTwoAlike}
 use Rattle.bz_algebra.proofs.Counting.{count_bases}
@@ -23,7 +23,7 @@ use Rattle.bz_history.specs.Budgets.{EnoughIsEnough, column_sets, separation_col
 use Rattle.bz_history.specs.Measures.{all_nodes_below, nodes_below, points_of}
 use Rattle.bz_history.specs.Pools.{IsBasisCut, IsPoolOf}
 use Rattle.bz_history.specs.Sizes.{AreSizes, closed_in}
-use Rattle.bz_history.specs.States.{State, is_open, mode_of}
+use Rattle.bz_history.specs.States.{is_open, mode_of}
 use Rattle.bz_history.proofs.AppendedSteps.{appended_cuts_are_of_bases}
 use Rattle.bz_history.proofs.Lists.{all_at, all_of_items, at_dropped}
 use Rattle.bz_history.proofs.MeasureSteps.{nodes_are_few, points_some}
@@ -216,7 +216,7 @@ few_of_blocks d way zero cs h differs = omega arith
 few_of_blocks d way (suc n) cs h differs =
     let rest : of_blocks n cs ≤ column_sets d n = few_of_blocks d way n cs h differs in
     let own : length (of_block (suc n) cs) ≤ 2 ^ separation_columns d (suc n) = few_of_block d way (suc n) (of_block (suc n) cs)
-        (each_of_block d way (suc n) (of_block (suc n) cs) (all_of_block (IsBasisCut d way) (suc n) cs h) (own_block (suc n) cs)) (different_of_block (suc n) cs differs) in
+    (each_of_block d way (suc n) (of_block (suc n) cs) (all_of_block (IsBasisCut d way) (suc n) cs h) (own_block (suc n) cs)) (different_of_block (suc n) cs differs) in
     omega arith
 
 -- the cuts that come after the first n are at most as many as the sets of columns

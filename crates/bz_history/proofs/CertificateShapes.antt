@@ -1,7 +1,7 @@
 -- The certificates of searches have their shape.
-use Rattle.std.proofs.Common.{◌≡◌, refl, sym, ◌∙◌, ap, subst, ℕ, suc, ◌+◌, ◌*◌, ◌<◌, ◌≤◌, List, [], ◌∷◌, ◌++◌, length, arith, ℤ, pos, ◌+ℤ◌, ◌≤ℤ◌, ◌<ℤ◌}
+use Rattle.std.proofs.Common.{◌≡◌, refl, sym, subst, ℕ, suc, ◌+◌, ◌*◌, ◌≤◌, List, [], ◌∷◌, length, arith, ℤ, pos, ◌+ℤ◌, ◌≤ℤ◌, ◌<ℤ◌}
 use Rattle.std.proofs.lemmas.Int.{ints}
-use Rattle.std.specs.Prelude.{◌==◌, if◌then◌else◌, Bool, true, false, Option, Some, None, Ok}
+use Rattle.std.specs.Prelude.{◌==◌, if◌then◌else◌, Bool, true, false, Some, Ok}
 use Rattle.std.specs.List.{AllByRecursion, enumerate_from}
 use Rattle.bz_algebra.specs.Numbers.{IsNarrow}
 use Rattle.bz_num.specs.Dense.{AreNarrow}
@@ -9,8 +9,6 @@ use Rattle.bz_num.specs.Fold.{IsNarrowSum, fold_of, products}
 use Rattle.bz_num.proofs.Folds.{fold-from_narrow}
 use Rattle.bz_num.proofs.NarrowSums.{result_narrow}
 use Rattle.bz_model.specs.declared.Master.{Master}
-use Rattle.bz_model.specs.declared.Parts.{Parts}
-use Rattle.bz_model.specs.Decomposed.{IsDecomposed}
 use Rattle.bz_model.specs.Parting.{blocks_of, inner_cost, position_of, terms_in}
 use Rattle.bz_model.specs.PointSums.{value_pairs}
 use Rattle.bz_model.specs.Points.{coordinate}
@@ -20,7 +18,6 @@ use Rattle.bz_model.proofs.Numbered.{all_mapped}
 use Rattle.bz_cut.specs.declared.Cut.{Cut}
 use Rattle.bz_cut.specs.declared.Mode.{Mode}
 use Rattle.bz_cut.specs.declared.Mode.TheVariants as mode
-use Rattle.bz_tree.specs.declared.TreeNode.{TreeNode}
 use Rattle.bz_tree.specs.Integers.{integer_at}
 use Rattle.bz_tree.specs.Trees.{Tree, preorder}
 use Rattle.bz_tree.proofs.NarrowSides.{narrow_at}
@@ -36,11 +33,11 @@ use Rattle.bz_history.specs.declared.state.FallingRay.{FallingRay}
 use Rattle.bz_history.specs.declared.state.Node.{Node}
 use Rattle.bz_history.specs.declared.state.Post.{Post}
 use Rattle.bz_history.specs.declared.state.Region.{Region}
-use Rattle.bz_history.specs.Certificates.{CertificatesHaveTheirShape, IsForkAt, IsInfeasibleCertificate, IsOptimalCertificate, IsTreeAt, IsUnboundedCertificate}
-use Rattle.bz_history.specs.Histories.{IsReplay, IsRootRegion}
+use Rattle.bz_history.specs.Certificates.{CertificatesHaveTheirShape, IsInfeasibleCertificate, IsOptimalCertificate, IsTreeAt, IsUnboundedCertificate}
+use Rattle.bz_history.specs.Histories.{IsRootRegion}
 use Rattle.bz_history.specs.Posts.{IsPostOf}
 use Rattle.bz_history.specs.Sizes.{AreSizes, closed_in}
-use Rattle.bz_history.specs.States.{State, above, below, mode_of}
+use Rattle.bz_history.specs.States.{above, below, mode_of}
 use Rattle.bz_history.specs.Steps.{IsBest}
 use Rattle.bz_history.specs.Trees.{HasRegion, IsInside, IsSplitAt, IsTree}
 use Rattle.bz_history.proofs.CertificateTrees.{fork_split}
@@ -86,7 +83,7 @@ narrow_nodes d root cuts nodes is_root whole (Tree.fork position left right a b)
     let both : IsNarrow left × IsNarrow (left +ℤ pos 1) = between (coordinate root.lower k) (coordinate region.lower k) left (coordinate region.upper k) (coordinate root.upper k) (narrow_at root.lower k is_root.lower) (narrow_at root.upper k is_root.upper) (inside.lower k) s.at_least s.below_upper (inside.upper k) in (
       (both.0, subst IsNarrow (sym fork.next) both.1),
       all_append IsNarrowNode (preorder a) (preorder b) (narrow_nodes d root cuts nodes is_root whole a kids (below k left region) s.left at_a)
-      (narrow_nodes d root cuts nodes is_root whole b (suc kids) (above k left region) s.right at_b),
+          (narrow_nodes d root cuts nodes is_root whole b (suc kids) (above k left region) s.right at_b),
     )
 
 pub certificates_have_their_shape : CertificatesHaveTheirShape

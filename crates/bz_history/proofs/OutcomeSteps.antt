@@ -1,7 +1,7 @@
 -- What a search has come to is true.
-use Rattle.std.proofs.Common.{◌≡◌, refl, sym, ◌∙◌, ap, subst, ℕ, zero, suc, ◌<◌, List, [], ◌∷◌, ◌++◌, arith}
+use Rattle.std.proofs.Common.{◌≡◌, refl, sym, ◌∙◌, ap, subst, ℕ, zero, suc, ◌<◌, List, [], ◌∷◌, ◌++◌}
 use Rattle.std.specs.Prelude.{◌↔◌, ◌||◌, ◌&&◌, not, Option, Some, None, Bool, true, false, is_some}
-use Rattle.std.specs.List.{list_any, slice_get}
+use Rattle.std.specs.List.{list_any}
 use Rattle.bz_model.specs.Points.{IsInfeasible, IsUnbounded}
 use Rattle.bz_model.specs.Splits.{Decomposition}
 use Rattle.bz_cut.specs.declared.Mode.{Mode}
@@ -9,7 +9,6 @@ use Rattle.bz_cut.specs.declared.Mode.TheVariants as mode
 use Rattle.bz_event.specs.declared.events.Entry.{Entry}
 use Rattle.bz_event.specs.declared.events.Event.{Event}
 use Rattle.bz_event.specs.declared.events.Event.TheVariants as event
-use Rattle.bz_event.specs.declared.events.Why.{Why}
 use Rattle.bz_event.specs.declared.events.Why.TheVariants as why
 use Rattle.bz_history.specs.declared.state.FallingRay.{FallingRay}
 use Rattle.bz_history.specs.declared.state.Node.{Node}
@@ -22,8 +21,8 @@ use Rattle.bz_history.specs.Budgets.{enough}
 use Rattle.bz_history.specs.Finished.{FinishedIsTrue}
 use Rattle.bz_history.specs.Histories.{IsReplay}
 use Rattle.bz_history.specs.Outcomes.{EndsWide, HasOptimum, IsSpent, OutcomesAreTrue, found, outcome_of, unless_stopped}
-use Rattle.bz_history.specs.States.{State, effect, is_done, is_open, mode_for, mode_of}
-use Rattle.bz_history.specs.Steps.{IsAt, IsBest, IsFilled, IsStopStep, MayFollow}
+use Rattle.bz_history.specs.States.{State, effect, is_open, mode_for, mode_of}
+use Rattle.bz_history.specs.Steps.{IsAt, IsFilled, MayFollow}
 use Rattle.bz_history.proofs.BestSteps.{best_is_filled}
 use Rattle.bz_history.proofs.BudgetSteps.{enough_is_enough}
 use Rattle.bz_history.proofs.FinishedSearches.{finished_searches_are_true}

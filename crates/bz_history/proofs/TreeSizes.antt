@@ -3,8 +3,8 @@ use Rattle.std.proofs.Common.{◌≡◌, refl, sym, ◌∙◌, ap, subst, ℕ, z
 use Rattle.std.proofs.lemmas.Bool.{cases_eq, eq-eqb, ne_eqb}
 use Rattle.std.proofs.lemmas.List.{length-append}
 use Rattle.std.proofs.lemmas.Option.{slice_get_within}
-use Rattle.std.specs.Prelude.{◌⊎◌, ◌==◌, Bool, Option, Some, None, cond, false}
-use Rattle.std.specs.List.{list_any, slice_get}
+use Rattle.std.specs.Prelude.{◌⊎◌, ◌==◌, Bool, Option, Some, None, cond}
+use Rattle.std.specs.List.{slice_get}
 use Rattle.bz_model.specs.Splits.{Decomposition}
 use Rattle.bz_cut.specs.declared.Cut.{Cut}
 use Rattle.bz_tree.specs.Trees.{Tree, preorder}
@@ -24,7 +24,7 @@ use Rattle.bz_history.specs.Trees.{IsEnd, IsEndedRight, IsParent, IsSplitAt, IsT
 use Rattle.bz_history.proofs.CertificateTrees.{node_at}
 use Rattle.bz_history.proofs.Growing.{histories_grow}
 use Rattle.bz_history.proofs.Lists.{at_changed, at_either, at_one}
-use Rattle.bz_history.proofs.TreeSteps.{AreSteady, steady_changed, steady_freed, steady_same, trees_are_whole}
+use Rattle.bz_history.proofs.TreeSteps.{AreSteady, steady_changed, steady_freed, trees_are_whole}
 
 -- ---- one parent
 abbrev HaveOneParent : List Node → Type 0
@@ -240,9 +240,9 @@ unfolding times
 all_times nodes (Tree.tip leaf) n at = sum_one (length nodes) n (slice_get_within nodes n at.node at.is_node)
 all_times nodes (Tree.fork position left right a b) n (kids, fork, at_a, at_b) =
     let all : sum_to (length nodes) (λ x. here x n + (times nodes x a kids at_a + times nodes x b (suc kids) at_b)) ≡ sum_to (length nodes) (λ x. here x n) + sum_to (length nodes) (λ x. times nodes x a kids at_a + times nodes x b (suc kids) at_b)
-        = sum_add (length nodes) (λ x. here x n) (λ x. times nodes x a kids at_a + times nodes x b (suc kids) at_b) in
+    = sum_add (length nodes) (λ x. here x n) (λ x. times nodes x a kids at_a + times nodes x b (suc kids) at_b) in
     let both : sum_to (length nodes) (λ x. times nodes x a kids at_a + times nodes x b (suc kids) at_b) ≡ sum_to (length nodes) (λ x. times nodes x a kids at_a) + sum_to (length nodes) (λ x. times nodes x b (suc kids) at_b)
-        = sum_add (length nodes) (λ x. times nodes x a kids at_a) (λ x. times nodes x b (suc kids) at_b) in
+    = sum_add (length nodes) (λ x. times nodes x a kids at_a) (λ x. times nodes x b (suc kids) at_b) in
     let own : sum_to (length nodes) (λ x. here x n) ≡ 1 = sum_one (length nodes) n (slice_get_within nodes n fork.node fork.is_node) in
     let below : sum_to (length nodes) (λ x. times nodes x a kids at_a) ≡ length (preorder a) = all_times nodes a kids at_a in
     let above : sum_to (length nodes) (λ x. times nodes x b (suc kids) at_b) ≡ length (preorder b) = all_times nodes b (suc kids) at_b in

@@ -1,4 +1,4 @@
-use Rattle.std.proofs.Common.{rules, ◌≡◌, ◌∙◌, FitsSigned, to_z-of_z}
+use Rattle.std.proofs.Common.{rules, ◌∙◌, FitsSigned, to_z-of_z}
 use Rattle.std.specs.Int.{w128}
 use Rattle.bz_model.specs.Parting.{inner_cost, terms_in}
 use Rattle.bz_model.specs.PointSums.{value_pairs}

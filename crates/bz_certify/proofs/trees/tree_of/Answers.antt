@@ -1,8 +1,7 @@
 use Rattle.std.proofs.Common.{rules, ◌≡◌, ◌++◌, ◌∷◌, ◌<◌, [], length, refl, subst, sym}
 use Rattle.std.specs.Prelude.{List, ℕ}
-use Rattle.bz_tree.specs.declared.TreeNode.{TreeNode}
 use Rattle.bz_certify.specs.Walks.{head_of, sides_of}
-use Rattle.bz_certify.proofs.Walking.{IsWalk, next_at, top_inside, walk_begins, walk_ends, walk_goes, walk_lighter, weight}
+use Rattle.bz_certify.proofs.Walking.{IsWalk, next_at, top_inside, walk_begins, walk_goes, walk_lighter, weight}
 use Rattle.bz_certify.proofs.trees.tree_of.Goals as goal
 
 pub loop-n-init : goal.loop-n-init
@@ -22,7 +21,7 @@ head-requires c = next_at c.args.nodes.now c.in-Some.n c.end_of-closing.result.n
 pub loop-n-smaller : goal.loop-n-smaller
 loop-n-smaller c =
     let lighter : weight (length c.args.nodes.now) (c.pop.new.self.items ++ sides_of c.end_of-closing.result.now) < weight (length c.args.nodes.now) (c.pop.new.self.items ++ c.in-Some.n ∷ [])
-        = walk_lighter c.args.nodes.now c.pop.new.self.items c.in-Some.n c.end_of-closing.result.now c.requires c.end_of-closing.ensures in
+    = walk_lighter c.args.nodes.now c.pop.new.self.items c.in-Some.n c.end_of-closing.result.now c.requires c.end_of-closing.ensures in
     subst (λ (s : List ℕ). weight (length c.args.nodes.now) c.push_sides.new.stack.items < weight (length c.args.nodes.now) s) (sym c.in-Some.ensures.items)
     (subst (λ (s : List ℕ). weight (length c.args.nodes.now) s < weight (length c.args.nodes.now) (c.pop.new.self.items ++ c.in-Some.n ∷ [])) (sym c.in_ok-push_sides.ensures) lighter)
 
