@@ -6,3 +6,6 @@ mod trees;
 
 pub use certificates::certificate_of;
 pub use trees::tree_of;
+
+#[cfg(test)]
+mod tests;
