@@ -5,6 +5,7 @@ pub mod CertificateShapes
 pub mod CertificateTrees
 pub mod CoverSteps
 pub mod FinishedSearches
+pub mod FloorSteps
 pub mod FrontSteps
 pub mod Growing
 pub mod LeafSteps

@@ -1,5 +1,5 @@
 -- Lists with a changed item, and with one more.
-use Rattle.std.proofs.Common.{◌≡◌, refl, sym, ap, subst, ℕ, zero, suc, ◌+◌, List, [], ◌∷◌, ◌++◌, length, inl, inr, arith}
+use Rattle.std.proofs.Common.{◌≡◌, ◌<◌, refl, sym, ap, subst, ℕ, zero, suc, ◌+◌, List, [], ◌∷◌, ◌++◌, length, inl, inr, arith}
 use Rattle.std.specs.Prelude.{◌⊎◌, Some, drop}
 use Rattle.std.specs.List.{AllByRecursion, slice_get}
 use Rattle.bz_history.specs.States.{changed}
@@ -126,6 +126,18 @@ before_changed f (x ∷ xs) zero y h =
     let same : f x ≡ y = cc in
     (x, refl, sym same)
 before_changed f (x ∷ xs) (suc i) y h = before_changed f xs i y h
+
+-- ---- numbers
+-- a number below the next is below, or it
+pub below_next : (k n : ℕ) → k < suc n → (k < n) ⊎ (k ≡ n)
+below_next zero zero h = inr refl
+below_next zero (suc n) h = inl (omega arith)
+below_next (suc k) zero h = absurd (omega arith)
+below_next (suc k) (suc n) h = later (below_next k n (omega arith))
+  where
+    later : (k < n) ⊎ (k ≡ n) → (suc k < suc n) ⊎ (suc k ≡ suc n)
+    later (inl less) = inl (omega arith)
+    later (inr same) = inr (ap suc same)
 
 -- ---- all items, and the last ones
 -- what stands at each place stands in the list

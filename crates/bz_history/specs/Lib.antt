@@ -2,6 +2,7 @@ pub mod Budgets
 pub mod Certificates
 pub mod Covers
 pub mod Finished
+pub mod Floors
 pub mod Fronts
 pub mod Histories
 pub mod Leaves

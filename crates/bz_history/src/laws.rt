@@ -3,6 +3,7 @@ ghost use Rattle.bz_history.specs.Budgets.{EnoughIsEnough};
 ghost use Rattle.bz_history.specs.Certificates.{CertificatesAreRight, CertificatesHaveTheirShape};
 ghost use Rattle.bz_history.specs.Covers.{NothingBetterIsLost};
 ghost use Rattle.bz_history.specs.Finished.{FinishedSearchesAreTrue, RaysAreTrue};
+ghost use Rattle.bz_history.specs.Floors.{FloorsComeFirst};
 ghost use Rattle.bz_history.specs.Fronts.{FrontsRise};
 ghost use Rattle.bz_history.specs.Histories.{CountsRise};
 ghost use Rattle.bz_history.specs.Leaves.{LeavesAreRight};
@@ -24,6 +25,12 @@ pub fn counts_rise()
 /// so, and no two are the same.
 pub fn pools_are_right()
     ensures { PoolsAreRight }
+{}
+
+/// The floors are the first cuts, in the order of their blocks, and have a number above 0 at their etas; while they are made
+/// there is no other cut and no post.
+pub fn floors_come_first()
+    ensures { FloorsComeFirst }
 {}
 
 /// Each cut after the floors is that of a basis of its block's separation, and all are of the mode of now.

@@ -1,0 +1,5 @@
+pub mod Choosing
+pub mod Chosen
+pub mod CopiedTasks
+pub mod FloorsGiven
+pub mod Marking

@@ -1,0 +1,21 @@
+//! The search: its history, and the tasks that it hands out.
+//!
+//! The state of a search is what its history makes of the region that it began with. This crate knows neither who solves a
+//! task nor how many workers there are.
+#![tactic(auto)]
+
+mod answering;
+mod appending;
+mod choices;
+mod copies;
+mod giving_floors;
+mod handing;
+mod handouts;
+mod outcomes;
+mod roles;
+mod searches;
+
+pub use answering::Taken;
+pub use outcomes::Outcome;
+pub use roles::{Next, Role};
+pub use searches::Search;

@@ -1,0 +1,12 @@
+pub mod BestPosts
+pub mod Completing
+pub mod Decided
+pub mod FittingStates
+pub mod FloorsFollow
+pub mod GoingOn
+pub mod Judged
+pub mod NodeEnds
+pub mod NodesFollow
+pub mod SeparationsFollow
+pub mod StopsFollow
+pub mod Tasks

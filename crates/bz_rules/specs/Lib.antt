@@ -1,0 +1,5 @@
+pub mod Entries
+pub mod Following
+pub mod Laws
+pub mod Rules
+pub mod Shapes
