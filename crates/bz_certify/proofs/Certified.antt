@@ -36,7 +36,7 @@ use Rattle.bz_history.specs.States.{State, is_open, mode_for}
 use Rattle.bz_history.specs.Steps.{IsAt, IsFilled}
 use Rattle.bz_history.specs.Trees.{IsEnd, IsEndedRight, IsInside, IsTree}
 use Rattle.bz_history.proofs.BestSteps.{best_is_filled}
-use Rattle.bz_history.specs.Budgets.{budget_limit}
+use Rattle.bz_history.specs.Budgets.{greatest_budget}
 use Rattle.bz_history.proofs.CertificateShapes.{certificates_have_their_shape}
 use Rattle.bz_history.proofs.CertificateTrees.{certificates_are_right}
 use Rattle.bz_history.proofs.FinishedSearches.{none_open}
@@ -103,7 +103,7 @@ pub record IsLawful (d : Decomposition) (cuts : List Cut) (nodes : List Node) (p
   pub infeasible : best ≡ None → (tree : Tree) → IsTreeAt nodes 0 tree → (c : Certificate) → IsInfeasibleCertificate cuts tree c → IsGood d c
   pub unbounded : (i : ℕ) → best ≡ Some i → (post : Post) → IsAt posts i post → (r : FallingRay) → ray ≡ Some r → (c : Certificate) → IsUnboundedCertificate d post r c → IsGood d c
 
-state_lawful : (d : Decomposition) (budget : ℕ) (root : Region) (es : List Entry) (t : State) → IsDecomposed d.model d.part → budget ≤ budget_limit → IsReplay d budget root es t → IsLawful d t.cuts t.nodes t.posts t.best t.ray
+state_lawful : (d : Decomposition) (budget : ℕ) (root : Region) (es : List Entry) (t : State) → IsDecomposed d.model d.part → budget ≤ greatest_budget → IsReplay d budget root es t → IsLawful d t.cuts t.nodes t.posts t.best t.ray
 state_lawful d budget root es t dec limit r = record {
   has_tree = passing.has_tree;
   closed = all_closed d root t.cuts t.nodes r.root_is.lower r.root_is.upper (trees_are_whole d budget root es t r);

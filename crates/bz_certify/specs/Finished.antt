@@ -19,7 +19,7 @@ use Rattle.bz_history.specs.declared.state.FallingRay.{FallingRay}
 use Rattle.bz_history.specs.declared.state.Node.{Node}
 use Rattle.bz_history.specs.declared.state.Post.{Post}
 use Rattle.bz_history.specs.declared.state.Region.{Region}
-use Rattle.bz_history.specs.Budgets.{budget_limit}
+use Rattle.bz_history.specs.Budgets.{greatest_budget}
 use Rattle.bz_history.specs.Certificates.{IsInfeasibleCertificate, IsOptimalCertificate, IsTreeAt, IsUnboundedCertificate}
 use Rattle.bz_history.specs.Histories.{IsReplay}
 use Rattle.bz_history.specs.Outcomes.{HasVerdict, outcome_of}
@@ -45,7 +45,7 @@ pub record IsFinished (d : Decomposition) (cuts : List Cut) (nodes : List Node) 
   pub es : List Entry
   pub state : State
   pub replayed : IsReplay d budget root es state
-  pub limit : budget ≤ budget_limit
+  pub limit : budget ≤ greatest_budget
   pub cuts_are : state.cuts ≡ cuts
   pub nodes_are : state.nodes ≡ nodes
   pub posts_are : state.posts ≡ posts
