@@ -10,6 +10,7 @@ mod outcomes;
 mod placing;
 
 pub use flooring::floor;
+pub use placing::placed;
 
 #[cfg(test)]
 mod tests;

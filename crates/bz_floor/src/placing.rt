@@ -8,7 +8,7 @@ use bz_num::OutOfMemory;
 use std::alloc::Global;
 
 /// The direction over all columns of the model: the block's numbers at its columns, and 0 elsewhere.
-pub(crate) fn placed(
+pub fn placed(
     alloc: Global,
     split: &Split,
     block: u32,

@@ -57,7 +57,7 @@ use Rattle.bz_history.proofs.TreeSteps.{trees_are_whole}
 
 -- ---- there is a tree
 -- a node that is there
-node_at : (nodes : List Node) (n : ℕ) → n < length nodes → (x : Node) × IsAt nodes n x
+pub node_at : (nodes : List Node) (n : ℕ) → n < length nodes → (x : Node) × IsAt nodes n x
 node_at [] n l = absurd (omega arith)
 node_at (x ∷ nodes) zero l = (x, refl)
 node_at (x ∷ nodes) (suc n) l = node_at nodes n (omega arith)
@@ -119,7 +119,7 @@ tip_leaf d root cuts nodes n region leaf tree here t =
     (leaf_of d cuts nodes n t.node.region t.closing t.front leaf t.by_leaf (subst (IsEndedRight d cuts nodes n t.node.region) t.closed (tree.each n t.node t.is_node)))
 
 -- the split of a fork, over the region of its node
-fork_split : (d : Decomposition) (root : Region) (cuts : List Cut) (nodes : List Node) (n position : ℕ) (left right : ℤ) (kids : ℕ) (region : Region) → IsTree d root cuts nodes → HasRegion nodes n region → IsForkAt nodes n position left right kids → IsSplitAt d nodes n region position left kids
+pub fork_split : (d : Decomposition) (root : Region) (cuts : List Cut) (nodes : List Node) (n position : ℕ) (left right : ℤ) (kids : ℕ) (region : Region) → IsTree d root cuts nodes → HasRegion nodes n region → IsForkAt nodes n position left right kids → IsSplitAt d nodes n region position left kids
 fork_split d root cuts nodes n position left right kids region tree here f =
     let own : f.node.region ≡ region = ap (λ (x : Node). x.region) (at_one nodes n f.node here.node f.is_node here.is_node) ∙ here.region_is in
     subst (λ (r : Region). IsSplitAt d nodes n r position left kids) own
@@ -253,13 +253,13 @@ certificates_are_right d budget root es t dec r = record { has_tree = has_tree; 
           bounds = each_below t.nodes (Reaches (value_of d.model d.part post.point) post.point.den) (λ leaf c. reaches_value d t leaf post best (leaves leaf c)) tree 0 at;
         }
 
-    infeasible : t.best ≡ None → (tree : Tree) → IsTreeAt t.nodes 0 tree → (c : Certificate) → IsInfeasibleCertificate t tree c → Passes d.model d.part c × Fits d.model d.part c
+    infeasible : t.best ≡ None → (tree : Tree) → IsTreeAt t.nodes 0 tree → (c : Certificate) → IsInfeasibleCertificate t.cuts tree c → Passes d.model d.part c × Fits d.model d.part c
     infeasible no_best tree at c is = (
-      record { as_its_verdict = subst (λ (v : Verdict). PassesAs d.model d.part c v c.parts) (sym is.verdict) (subst (λ (cs : List Cut). PassesInfeasible d.model d.part cs c.tree) (sym is.cuts) (subst (PassesInfeasible d.model d.part t.cuts) (sym is.tree_is) (empty_tree no_best tree at))) },
-      record { as_its_verdict = subst (λ (v : Verdict). FitsAs d.model d.part c v c.parts) (sym is.verdict) (bound tree c at is.cuts is.tree_is) },
+      record { as_its_verdict = subst (λ (v : Verdict). PassesAs d.model d.part c v c.parts) (sym is.verdict) (subst (λ (cs : List Cut). PassesInfeasible d.model d.part cs c.tree) (sym is.cuts_are) (subst (PassesInfeasible d.model d.part t.cuts) (sym is.tree_is) (empty_tree no_best tree at))) },
+      record { as_its_verdict = subst (λ (v : Verdict). FitsAs d.model d.part c v c.parts) (sym is.verdict) (bound tree c at is.cuts_are is.tree_is) },
     )
 
-    optimal : mode_of t ≡ mode.Cost → (post : Post) → IsBest t post → (tree : Tree) → IsTreeAt t.nodes 0 tree → (c : Certificate) → IsOptimalCertificate d t post tree c → Passes d.model d.part c × Fits d.model d.part c
+    optimal : mode_of t ≡ mode.Cost → (post : Post) → IsBest t post → (tree : Tree) → IsTreeAt t.nodes 0 tree → (c : Certificate) → IsOptimalCertificate d t.cuts post tree c → Passes d.model d.part c × Fits d.model d.part c
     optimal cost post best tree at c is = (
       record { as_its_verdict = subst (λ (v : Verdict). PassesAs d.model d.part c v c.parts) (sym is.verdict) (subst (PassesAs d.model d.part c verdict.Optimal) (sym is.parts) passes) },
       record { as_its_verdict = subst (λ (v : Verdict). FitsAs d.model d.part c v c.parts) (sym is.verdict) (subst (FitsAs d.model d.part c verdict.Optimal) (sym is.parts) fits) },
@@ -270,7 +270,7 @@ certificates_are_right d budget root es t dec r = record { has_tree = has_tree; 
 
         passes : PassesOptimal d.model d.part (parts_of post) c.value c.cuts c.tree
         passes = subst (λ (v : ℤ). PassesOptimal d.model d.part (parts_of post) v c.cuts c.tree) (sym is.value)
-            (subst (λ (cs : List Cut). PassesOptimal d.model d.part (parts_of post) (value_of d.model d.part post.point) cs c.tree) (sym is.cuts)
+            (subst (λ (cs : List Cut). PassesOptimal d.model d.part (parts_of post) (value_of d.model d.part post.point) cs c.tree) (sym is.cuts_are)
             (subst (PassesOptimal d.model d.part (parts_of post) (value_of d.model d.part post.point) t.cuts) (sym is.tree_is) (best_tree cost post best tree at)))
 
         fits : FitsOptimal d.model d.part (parts_of post) c
@@ -279,10 +279,10 @@ certificates_are_right d budget root es t dec r = record { has_tree = has_tree; 
           costs = costs_fit d t post h (filled post best);
           value = h.posted.fits_value.0;
           stated = subst (λ (v : ℤ). FitsStated d.model v post.point.den) (sym is.value) h.posted.fits_value.1;
-          bound = bound tree c at is.cuts is.tree_is;
+          bound = bound tree c at is.cuts_are is.tree_is;
         }
 
-    unbounded : (post : Post) → IsBest t post → (ray : FallingRay) → t.ray ≡ Some ray → (c : Certificate) → IsUnboundedCertificate d t post ray c → Passes d.model d.part c × Fits d.model d.part c
+    unbounded : (post : Post) → IsBest t post → (ray : FallingRay) → t.ray ≡ Some ray → (c : Certificate) → IsUnboundedCertificate d post ray c → Passes d.model d.part c × Fits d.model d.part c
     unbounded post best ray ray_is c is = (
       record { as_its_verdict = subst (λ (v : Verdict). PassesAs d.model d.part c v c.parts) (sym is.verdict) (subst (PassesAs d.model d.part c verdict.Unbounded) (sym is.parts) passes) },
       record { as_its_verdict = subst (λ (v : Verdict). FitsAs d.model d.part c v c.parts) (sym is.verdict) (subst (FitsAs d.model d.part c verdict.Unbounded) (sym is.parts) fits) },

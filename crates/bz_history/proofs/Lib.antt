@@ -1,4 +1,7 @@
+pub mod AppendedSteps
 pub mod BestSteps
+pub mod BudgetSteps
+pub mod CertificateShapes
 pub mod CertificateTrees
 pub mod CoverSteps
 pub mod FinishedSearches
@@ -9,6 +12,7 @@ pub mod LeafSteps
 pub mod Lists
 pub mod LiveSteps
 pub mod MeasureSteps
+pub mod OutcomeSteps
 pub mod PlaceSteps
 pub mod PoolSteps
 pub mod PostSteps
@@ -16,4 +20,5 @@ pub mod RaySteps
 pub mod SizeSteps
 pub mod SplitColumns
 pub mod Stamps
+pub mod TreeSizes
 pub mod TreeSteps

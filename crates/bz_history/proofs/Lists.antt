@@ -1,6 +1,6 @@
 -- Lists with a changed item, and with one more.
 use Rattle.std.proofs.Common.{◌≡◌, ◌<◌, refl, sym, ap, subst, ℕ, zero, suc, ◌+◌, List, [], ◌∷◌, ◌++◌, length, inl, inr, arith}
-use Rattle.std.specs.Prelude.{◌⊎◌, Some}
+use Rattle.std.specs.Prelude.{◌⊎◌, Some, drop}
 use Rattle.std.specs.List.{AllByRecursion, slice_get}
 use Rattle.bz_history.specs.States.{changed}
 
@@ -138,3 +138,19 @@ below_next (suc k) (suc n) h = later (below_next k n (omega arith))
     later : (k < n) ⊎ (k ≡ n) → (suc k < suc n) ⊎ (suc k ≡ suc n)
     later (inl less) = inl (omega arith)
     later (inr same) = inr (ap suc same)
+
+-- ---- all items, and the last ones
+-- what stands at each place stands in the list
+pub all_of_items : {X : Type 0} (P : X → Type 0) (xs : List X) → ((k : ℕ) (x : X) → slice_get xs k ≡ Some x → P x) → AllByRecursion P xs
+all_of_items P [] h = tt
+all_of_items P (x ∷ xs) h = (h 0 x refl, all_of_items P xs (λ k y at. h (suc k) y at))
+
+-- an item of those after the first n stands n places later in the list
+pub at_dropped : {X : Type 0} (n : ℕ) (xs : List X) (k : ℕ) (x : X) → slice_get (drop n xs) k ≡ Some x → slice_get xs (n + k) ≡ Some x
+at_dropped zero xs k x h =
+    let same : k ≡ 0 + k = omega arith in
+    subst (λ (i : ℕ). slice_get xs i ≡ Some x) same h
+at_dropped (suc n) [] k x h = absurd (cc)
+at_dropped (suc n) (y ∷ ys) k x h =
+    let next : suc (n + k) ≡ suc n + k = omega arith in
+    subst (λ (i : ℕ). slice_get (y ∷ ys) i ≡ Some x) next (at_dropped n ys k x h)

@@ -47,7 +47,7 @@ choices_split l v u least less =
     omega (arith, ints, a, b, c)
 
 -- ---- boxes
-points_some : (ls us : List ℤ) → 1 ≤ points_in ls us
+pub points_some : (ls us : List ℤ) → 1 ≤ points_in ls us
 points_some [] us = omega arith
 points_some (l ∷ ls) [] = omega arith
 points_some (l ∷ ls) (u ∷ us) = one-le-mul (count_some (u -ℤ l)) (points_some ls us)

@@ -87,6 +87,8 @@ end_grown d cuts more nodes later n region (Some closing) kept longer h = by clo
     by (how.Split front basis position value) g = record {
       later = g.later;
       is_split = g.is_split;
+      at_least = g.at_least;
+      below_upper = g.below_upper;
       left = region_kept nodes later closing.kids (below (integer_at d.model d.part position) value region) kept g.left;
       right = region_kept nodes later (suc closing.kids) (above (integer_at d.model d.part position) value region) kept g.right;
     }
@@ -337,6 +339,8 @@ split_opened d root t number front basis position value may tree = record { ende
         record {
           later = slice_get_within t.nodes number w may.waits.is_node;
           is_split = splits_at d.model d.part may.first.place position value may.first.inside may.first.position_is;
+          at_least = subst (λ (r : Region). (coordinate r.lower k) ≤ℤ value) same may.at_least;
+          below_upper = subst (λ (r : Region). value <ℤ (coordinate r.upper k)) same may.below;
           left = region_after closed (left ∷ right ∷ []) 0 (length t.nodes) left (below k value region) refl (omega (arith, count)) (ap (below k value) same);
           right = region_after closed (left ∷ right ∷ []) 1 (suc (length t.nodes)) right (above k value region) refl (omega (arith, count)) (ap (above k value) same);
         }

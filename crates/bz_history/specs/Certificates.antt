@@ -1,9 +1,10 @@
 -- What a search without an open node has to show: its tree, its cuts, and the parts of the best post.
-use Rattle.std.specs.Prelude.{ℕ, suc, ◌≡◌, ℤ, pos, ◌+ℤ◌, false, List, [], Some, None}
+use Rattle.std.specs.Prelude.{ℕ, suc, ◌≡◌, ◌≤◌, ℤ, pos, ◌+ℤ◌, false, List, [], Some, None}
 use Rattle.std.specs.List.{list_any}
 use Rattle.bz_model.specs.declared.Master.{Master}
 use Rattle.bz_model.specs.Decomposed.{IsDecomposed}
 use Rattle.bz_model.specs.Splits.{Decomposition}
+use Rattle.bz_cut.specs.declared.Cut.{Cut}
 use Rattle.bz_cut.specs.declared.Mode.TheVariants as mode
 use Rattle.bz_tree.specs.declared.Leaf.{Leaf}
 use Rattle.bz_tree.specs.Trees.{Tree, preorder}
@@ -11,6 +12,7 @@ use Rattle.bz_cert.specs.declared.records.Certificate.{Certificate}
 use Rattle.bz_cert.specs.declared.records.Verdict.TheVariants as verdict
 use Rattle.bz_cert.specs.Fits.{Fits}
 use Rattle.bz_cert.specs.Passing.{Passes}
+use Rattle.bz_cert.specs.Shapes.{IsShaped}
 use Rattle.bz_event.specs.declared.events.Entry.{Entry}
 use Rattle.bz_event.specs.declared.events.How.TheVariants as how
 use Rattle.bz_event.specs.Floors.{placed}
@@ -20,6 +22,7 @@ use Rattle.bz_history.specs.declared.state.FallingRay.{FallingRay}
 use Rattle.bz_history.specs.declared.state.Node.{Node}
 use Rattle.bz_history.specs.declared.state.Post.{Post}
 use Rattle.bz_history.specs.declared.state.Region.{Region}
+use Rattle.bz_history.specs.Budgets.{greatest_budget}
 use Rattle.bz_history.specs.Finished.{completions, parts_of}
 use Rattle.bz_history.specs.Histories.{IsReplay}
 use Rattle.bz_history.specs.States.{State, is_open, mode_of}
@@ -54,17 +57,22 @@ IsTreeAt nodes n (Tree.fork position left right below above) =
 
 -- ---- the certificate of a search without an open node, by its verdict
 -- it has the best post's parts and value, the cuts of the pool and the tree
-pub record IsOptimalCertificate (d : Decomposition) (t : State) (post : Post) (tree : Tree) (c : Certificate) : Type 0 where
+pub record IsOptimalCertificate (d : Decomposition) (cuts : List Cut) (post : Post) (tree : Tree) (c : Certificate)
+    : Type 0 where
   pub verdict : c.verdict ≡ verdict.Optimal
   pub parts : c.parts ≡ Some (parts_of post)
   pub value : c.value ≡ value_of d.model d.part post.point
-  pub cuts : c.cuts ≡ t.cuts
+  pub no_ray : c.ray ≡ []
+  pub cuts_are : c.cuts ≡ cuts
   pub tree_is : c.tree ≡ preorder tree
 
 -- it has the cuts of the pool and the tree
-pub record IsInfeasibleCertificate (t : State) (tree : Tree) (c : Certificate) : Type 0 where
+pub record IsInfeasibleCertificate (cuts : List Cut) (tree : Tree) (c : Certificate) : Type 0 where
   pub verdict : c.verdict ≡ verdict.Infeasible
-  pub cuts : c.cuts ≡ t.cuts
+  pub no_parts : c.parts ≡ None
+  pub no_value : c.value ≡ pos 0
+  pub no_ray : c.ray ≡ []
+  pub cuts_are : c.cuts ≡ cuts
   pub tree_is : c.tree ≡ preorder tree
 
 -- the point of a post without its etas
@@ -79,24 +87,41 @@ without_etas point = record {
 }
 
 -- it has the best post's parts without etas, and the direction over the model's columns
-pub record IsUnboundedCertificate (d : Decomposition) (t : State) (post : Post) (ray : FallingRay) (c : Certificate)
-    : Type 0 where
+pub record IsUnboundedCertificate (d : Decomposition) (post : Post) (ray : FallingRay) (c : Certificate) : Type 0 where
   pub verdict : c.verdict ≡ verdict.Unbounded
   pub parts : c.parts ≡ Some (record { master = without_etas post.point; blocks = completions post.fills })
+  pub no_value : c.value ≡ pos 0
   pub ray_is : c.ray ≡ placed d.part ray.block ray.d
+  pub no_cuts : c.cuts ≡ []
+  pub no_tree : c.tree ≡ []
 
 -- There is a tree below the first node where no node is open. Each certificate of the search, by its verdict, passes and
 -- fits.
 pub record CertificatesPass (d : Decomposition) (t : State) : Type 0 where
   pub has_tree : list_any is_open t.nodes ≡ false → (tree : Tree) × IsTreeAt t.nodes 0 tree
   pub optimal : mode_of t ≡ mode.Cost → (post : Post) → IsBest t post → (tree : Tree) → IsTreeAt t.nodes 0 tree →
-      (c : Certificate) → IsOptimalCertificate d t post tree c → Passes d.model d.part c × Fits d.model d.part c
+      (c : Certificate) → IsOptimalCertificate d t.cuts post tree c → Passes d.model d.part c × Fits d.model d.part c
   pub infeasible : t.best ≡ None → (tree : Tree) → IsTreeAt t.nodes 0 tree →
-      (c : Certificate) → IsInfeasibleCertificate t tree c → Passes d.model d.part c × Fits d.model d.part c
+      (c : Certificate) → IsInfeasibleCertificate t.cuts tree c → Passes d.model d.part c × Fits d.model d.part c
   pub unbounded : (post : Post) → IsBest t post → (ray : FallingRay) → t.ray ≡ Some ray →
-      (c : Certificate) → IsUnboundedCertificate d t post ray c → Passes d.model d.part c × Fits d.model d.part c
+      (c : Certificate) → IsUnboundedCertificate d post ray c → Passes d.model d.part c × Fits d.model d.part c
 
 abbrev pub CertificatesAreRight : Type 0
 CertificatesAreRight =
     (d : Decomposition) (budget : ℕ) (root : Region) (es : List Entry) (t : State) → IsDecomposed d.model d.part →
     IsReplay d budget root es t → CertificatesPass d t
+
+-- Each certificate of the search, by its verdict, has what that needs, nothing else, and no wide number; its cuts and nodes are
+-- few enough to be written.
+pub record CertificatesAreShaped (d : Decomposition) (t : State) : Type 0 where
+  pub optimal : mode_of t ≡ mode.Cost → (post : Post) → IsBest t post → (tree : Tree) → IsTreeAt t.nodes 0 tree →
+      (c : Certificate) → IsOptimalCertificate d t.cuts post tree c → IsShaped c
+  pub infeasible : (tree : Tree) → IsTreeAt t.nodes 0 tree →
+      (c : Certificate) → IsInfeasibleCertificate t.cuts tree c → IsShaped c
+  pub unbounded : (post : Post) → (ray : FallingRay) → t.ray ≡ Some ray →
+      (c : Certificate) → IsUnboundedCertificate d post ray c → IsShaped c
+
+abbrev pub CertificatesHaveTheirShape : Type 0
+CertificatesHaveTheirShape =
+    (d : Decomposition) (budget : ℕ) (root : Region) (es : List Entry) (t : State) → IsDecomposed d.model d.part →
+    budget ≤ greatest_budget → IsReplay d budget root es t → CertificatesAreShaped d t

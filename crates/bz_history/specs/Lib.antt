@@ -1,3 +1,4 @@
+pub mod Budgets
 pub mod Certificates
 pub mod Covers
 pub mod Finished
@@ -7,6 +8,7 @@ pub mod Histories
 pub mod Leaves
 pub mod Lives
 pub mod Measures
+pub mod Outcomes
 pub mod Places
 pub mod Pools
 pub mod Posts

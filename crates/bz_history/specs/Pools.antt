@@ -1,17 +1,20 @@
 -- The pool of every legal history.
-use Rattle.std.specs.Prelude.{ℕ, ◌≡◌, List, [], ◌∷◌}
+use Rattle.std.specs.Prelude.{ℕ, ◌≡◌, ◌≤◌, List, [], ◌∷◌, length}
 use Rattle.std.specs.List.{AllByRecursion, flat_map}
 use Rattle.bz_model.specs.Splits.{Decomposition}
 use Rattle.bz_cut.specs.declared.Cut.{Cut}
+use Rattle.bz_cut.specs.declared.Mode.{Mode}
 use Rattle.bz_cut.specs.Cuts.{IsValid}
 use Rattle.bz_cut.specs.Fits.{FitsCut}
+use Rattle.bz_std.specs.CutsOfBases.{CutOf}
 use Rattle.bz_pool.specs.Pools.{AreApart}
 use Rattle.bz_event.specs.declared.events.Entry.{Entry}
 use Rattle.bz_event.specs.declared.events.Event.{Event}
 use Rattle.bz_event.specs.declared.events.Event.TheVariants as event
 use Rattle.bz_history.specs.declared.state.Region.{Region}
 use Rattle.bz_history.specs.Histories.{IsReplay}
-use Rattle.bz_history.specs.States.{State}
+use Rattle.bz_history.specs.States.{State, mode_of}
+use Rattle.bz_history.specs.Steps.{IsAt}
 
 -- the cut that an event adds to the pool
 abbrev pub cuts_of : Event → List Cut
@@ -41,3 +44,14 @@ abbrev pub PoolsAreRight : Type 0
 PoolsAreRight =
     (d : Decomposition) (budget : ℕ) (root : Region) (es : List Entry) (t : State) → IsReplay d budget root es t →
     IsPoolOf d es t
+
+-- the cut is that of a basis of its block's separation
+pub record IsBasisCut (d : Decomposition) (way : Mode) (cut : Cut) : Type 0 where
+  pub basis : List ℕ
+  pub of_basis : CutOf d.model d.part way cut.block basis cut
+
+-- Each cut after the floors is that of a basis, and all are of the mode of now.
+abbrev pub AppendedCutsAreOfBases : Type 0
+AppendedCutsAreOfBases =
+    (d : Decomposition) (budget : ℕ) (root : Region) (es : List Entry) (t : State) → IsReplay d budget root es t →
+    (k : ℕ) (cut : Cut) → length t.floors ≤ k → IsAt t.cuts k cut → IsBasisCut d (mode_of t) cut

@@ -1,5 +1,5 @@
 -- The tree of every legal history.
-use Rattle.std.specs.Prelude.{ℕ, suc, ◌≡◌, ◌<◌, ◌≤◌, ◌⊎◌, ℤ, pos, ◌+ℤ◌, ◌≤ℤ◌, List, length, take, Option, Some, None}
+use Rattle.std.specs.Prelude.{ℕ, suc, ◌≡◌, ◌<◌, ◌≤◌, ◌⊎◌, ℤ, pos, ◌+ℤ◌, ◌≤ℤ◌, ◌<ℤ◌, List, length, take, Option, Some, None}
 use Rattle.bz_model.specs.Splits.{Decomposition}
 use Rattle.bz_model.specs.Points.{coordinate}
 use Rattle.bz_cut.specs.declared.Cut.{Cut}
@@ -24,12 +24,14 @@ pub record HasRegion (nodes : List Node) (number : ℕ) (region : Region) : Type
   pub is_node : IsAt nodes number node
   pub region_is : node.region ≡ region
 
--- The region of node number n is split at an integer column, at most `value` and above it: the two sides are the nodes
--- `kids` and the next one, which came later.
+-- The region of node number n is split at an integer column, between its ends: at most `value` and above it. The two sides
+-- are the nodes `kids` and the next one, which came later.
 pub record IsSplitAt (d : Decomposition) (nodes : List Node) (n : ℕ) (region : Region) (position : ℕ) (value : ℤ) (kids : ℕ)
     : Type 0 where
   pub later : n < kids
   pub is_split : IsSplitOf d.model d.part (integer_at d.model d.part position) position value (value +ℤ pos 1)
+  pub at_least : coordinate region.lower (integer_at d.model d.part position) ≤ℤ value
+  pub below_upper : value <ℤ coordinate region.upper (integer_at d.model d.part position)
   pub left : HasRegion nodes kids (below (integer_at d.model d.part position) value region)
   pub right : HasRegion nodes (suc kids) (above (integer_at d.model d.part position) value region)
 
@@ -80,3 +82,9 @@ abbrev pub TreesAreWhole : Type 0
 TreesAreWhole =
     (d : Decomposition) (budget : ℕ) (root : Region) (es : List Entry) (t : State) → IsReplay d budget root es t →
     IsTree d root t.cuts t.nodes
+
+-- Each node is a side of one other at most.
+abbrev pub ParentsAreOne : Type 0
+ParentsAreOne =
+    (d : Decomposition) (budget : ℕ) (root : Region) (es : List Entry) (t : State) → IsReplay d budget root es t →
+    (m k n : ℕ) → IsParent t.nodes m n → IsParent t.nodes k n → m ≡ k

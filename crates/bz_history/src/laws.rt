@@ -1,5 +1,6 @@
 //! What is true of every legal history.
-ghost use Rattle.bz_history.specs.Certificates.{CertificatesAreRight};
+ghost use Rattle.bz_history.specs.Budgets.{EnoughIsEnough};
+ghost use Rattle.bz_history.specs.Certificates.{CertificatesAreRight, CertificatesHaveTheirShape};
 ghost use Rattle.bz_history.specs.Covers.{NothingBetterIsLost};
 ghost use Rattle.bz_history.specs.Finished.{FinishedSearchesAreTrue, RaysAreTrue};
 ghost use Rattle.bz_history.specs.Floors.{FloorsComeFirst};
@@ -8,11 +9,12 @@ ghost use Rattle.bz_history.specs.Histories.{CountsRise};
 ghost use Rattle.bz_history.specs.Leaves.{LeavesAreRight};
 ghost use Rattle.bz_history.specs.Lives.{LivesAreRight};
 ghost use Rattle.bz_history.specs.Measures.{NodesAreFew};
+ghost use Rattle.bz_history.specs.Outcomes.{OutcomesAreTrue};
 ghost use Rattle.bz_history.specs.Places.{PlacesAreRight};
-ghost use Rattle.bz_history.specs.Pools.{PoolsAreRight};
+ghost use Rattle.bz_history.specs.Pools.{AppendedCutsAreOfBases, PoolsAreRight};
 ghost use Rattle.bz_history.specs.Posts.{PostsAreRight};
 ghost use Rattle.bz_history.specs.Sizes.{SizesAreRight};
-ghost use Rattle.bz_history.specs.Trees.{TreesAreWhole};
+ghost use Rattle.bz_history.specs.Trees.{ParentsAreOne, TreesAreWhole};
 
 /// The counts of each worker's stamps are 0, 1, 2 and on, each once and in order.
 pub fn counts_rise()
@@ -31,6 +33,11 @@ pub fn floors_come_first()
     ensures { FloorsComeFirst }
 {}
 
+/// Each cut after the floors is that of a basis of its block's separation, and all are of the mode of now.
+pub fn appended_cuts_are_of_bases()
+    ensures { AppendedCutsAreOfBases }
+{}
+
 /// Each posted point, live or ended, lies in its node's box and meets the cuts of its own front; in mode Cost its leaf bounds
 /// the node by its value; and what fills a block completes it there.
 pub fn posts_are_right()
@@ -41,6 +48,11 @@ pub fn posts_are_right()
 /// that holds over its own front.
 pub fn trees_are_whole()
     ensures { TreesAreWhole }
+{}
+
+/// Each node is a side of one other at most.
+pub fn parents_are_one()
+    ensures { ParentsAreOne }
 {}
 
 /// Each closing leaf is empty, or its bound is no less than the value of the best post now.
@@ -69,6 +81,12 @@ pub fn sizes_are_right()
     ensures { SizesAreRight }
 {}
 
+/// While a node is open, fewer units are spent than a number that the root's box and the sizes of the blocks tell: a budget
+/// of so many is never spent with a node open.
+pub fn enough_is_enough()
+    ensures { EnoughIsEnough }
+{}
+
 /// Each place in the history that the state keeps is that of the entry which it speaks of.
 pub fn places_are_right()
     ensures { PlacesAreRight }
@@ -95,4 +113,17 @@ pub fn rays_are_true()
 /// certificate of the search passes and fits, whichever its verdict.
 pub fn certificates_are_right()
     ensures { CertificatesAreRight }
+{}
+
+/// What a search has come to is true: its best post is optimal, or no point is feasible, or the model is unbounded, or its
+/// units are spent while a node is open, with a budget that is not enough, or its last entry is a true stop at a wide number.
+/// It runs exactly until it is done.
+pub fn outcomes_are_true()
+    ensures { OutcomesAreTrue }
+{}
+
+/// With a budget within the limit, each certificate of a search has what its verdict needs, nothing else and no wide number, and
+/// few enough cuts and nodes to be written.
+pub fn certificates_have_their_shape()
+    ensures { CertificatesHaveTheirShape }
 {}

@@ -78,3 +78,20 @@ pub enum Stopped {
     Budget,
     Wide,
 }
+
+/// What a search has come to.
+#[derive(Clone, Copy, Debug, PartialEq, Eq)]
+pub enum Outcome {
+    /// There are tasks left.
+    Running,
+    /// The best point is optimal.
+    Optimal,
+    /// No point is feasible.
+    Infeasible,
+    /// For each number some feasible point is better.
+    Unbounded,
+    /// Its units were spent while a node was open.
+    Budget,
+    /// A number was wide.
+    Wide,
+}
