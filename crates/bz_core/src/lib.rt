@@ -19,6 +19,5 @@ mod searches;
 mod stops;
 
 pub use answering::Taken;
-pub use outcomes::Outcome;
 pub use roles::{Next, Role};
 pub use searches::Search;
