@@ -4,5 +4,6 @@ pub mod Copies
 pub mod Floors
 pub mod Giving
 pub mod Handing
+pub mod Laws
 pub mod Searches
 pub mod Tasks

@@ -1,7 +1,7 @@
 //! Which task is handed out next.
 ghost use Rattle.std.specs.Prelude.{◌↔◌, ◌≡◌, ◌<◌, IsTrue, length, option_map};
 ghost use Rattle.bz_history.specs.Steps.{AreFloorsReady};
-ghost use Rattle.bz_core.specs.Handing.{Chooses, GoesOn, IsInRange, by_role, marked};
+ghost use Rattle.bz_core.specs.Handing.{Chooses, GoesOn, by_role, marked};
 ghost use Rattle.bz_core.specs.Searches.{now};
 
 use crate::choices::{choose_node, choose_separation};
@@ -59,7 +59,6 @@ impl Search<'_> {
 
     /// Marks what is handed out.
     fn mark(&mut self, next: Next)
-        requires { IsInRange next self.old.marks }
         ensures { self.new ≡ record self.old { marks = marked next self.old.marks } }
     {
         match next {

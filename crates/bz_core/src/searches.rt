@@ -3,7 +3,8 @@ ghost use Rattle.std.specs.Prelude.{◌≡◌, ◌<◌, ◌≤◌, [], ◌∷◌
 ghost use Rattle.bz_model.specs.Decomposed.{IsDecomposed};
 ghost use Rattle.bz_history.specs.Histories.{IsRootRegion, count_of};
 ghost use Rattle.bz_history.specs.Outcomes.{outcome_of};
-ghost use Rattle.bz_core.specs.Searches.{greatest_budget, now};
+ghost use Rattle.bz_history.specs.Budgets.{greatest_budget};
+ghost use Rattle.bz_core.specs.Searches.{IsSearch, now};
 
 use crate::handouts::Marks;
 use crate::outcomes::outcome_of;
@@ -124,9 +125,11 @@ impl<'a> Search<'a> {
         self.budget
     }
 
-    /// All entries, in their order.
+    /// All entries, in their order. What a search knows is what they make of the region that it began with, and the laws
+    /// of legal histories hold of it.
     pub fn history(&self) -> &[Entry]
-        ensures { result.now ≡ self.now.history }
+        ensures entries { result.now ≡ self.now.history }
+        ensures kept { IsSearch self.now.split self.now.budget self.now.root self.now.history (now self.now) self.now.marks }
     {
         self.history.as_slice()
     }

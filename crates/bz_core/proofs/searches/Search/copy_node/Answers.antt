@@ -1,4 +1,4 @@
-use Rattle.std.proofs.Common.{◌≡◌, ◌+◌, ◌<◌, ◌≤◌, List, length, refl, rules, subst, sym, take}
+use Rattle.std.proofs.Common.{◌∙◌, ◌≡◌, ◌+◌, ◌<◌, ◌≤◌, List, length, refl, rules, subst, sym, take}
 use Rattle.std.specs.List.{AllByRecursion}
 use Rattle.std.proofs.lemmas.Option.{slice_get_read}
 use Rattle.bz_algebra.specs.Numbers.{IsNarrow}
@@ -92,5 +92,5 @@ returns-clause-solvable c =
       ready = λ ready over. subst (λ (cs : List Cut). IsReady d.part cs c.mode.result) (sym cuts)
           (subst (λ (way : Mode). IsReady d.part (take c.args.front t.cuts) way) (sym c.mode.ensures)
           (node_is_ready d c.self.inside.budget c.self.inside.root es t c.args.front c.self.invariant.replayed
-          (subst (AreFloorsReady d) c.self.invariant.replayed.state ready) over));
+          (subst (AreFloorsReady d) c.self.invariant.replayed.state ready) (λ way. over (c.mode.ensures ∙ way))));
     })
