@@ -2,8 +2,8 @@
 
 use crate::cut_rows::{CutRow, cuts};
 use crate::texts::{
-    ALONE, GATE, MIXED, NOTHING, NO_BLOCK, NO_MASTER, ONE, PAIR, PART, RAISED, STEPS, THREE, THREE_LOW, TWO,
-    TWO_BLOCKS, W_APART, X_APART,
+    ALONE, GATE, MIXED, NO_BLOCK, NO_MASTER, NOTHING, ONE, PAIR, PART, RAISED, STEPS, THREE,
+    THREE_LOW, TWO, TWO_BLOCKS, W_APART, X_APART,
 };
 use crate::wanted::{Place, is_at, split_of, unfit};
 use crate::{are_cuts_of, is_ready, region};

@@ -1,6 +1,7 @@
 //! Splits that are read from texts.
-ghost use Rattle.std.specs.Prelude.{◌-◌, ◌<◌, ◌^◌, length};
-
+ghost use Rattle.std.specs.Prelude.{◌-◌, ◌<◌, ◌^◌, IfSome, length};
+ghost use Rattle.bz_mps.specs.FactModel.{ModelOf};
+ghost use Rattle.bz_part.specs.Partition.{PartOf};
 
 use bz_model::Split;
 use bz_mps::read_mps;
@@ -13,6 +14,8 @@ use std::alloc::Global;
 pub fn read_split(alloc: Global, model: &[u8], part: &[u8]) -> Option<Split>
     requires model { length model.now < 2 ^ 32 - 1 }
     requires part { length part.now < 2 ^ 32 - 1 }
+    ensures model { IfSome result (λ split. ModelOf model.now split.model) }
+    ensures part { IfSome result (λ split. PartOf part.now split.model split.part) }
 {
     let Ok(model) = read_mps(alloc, model) else {
         return None;

@@ -48,7 +48,7 @@ pub(crate) const DOUBLE: &[u8] =
 pub(crate) const RISES: &[u8] =
     b"OBJSENSE MAX\nROWS\n N COST\nCOLUMNS\n M1 'MARKER' 'INTORG'\n x COST 2\n M2 'MARKER' 'INTEND'\n y COST 3\nBOUNDS\n MI BND y\n UP BND y 2.5\nENDATA\n";
 
-/// A free y from 1.00000001 to 1.50000001 times 10^38.
+/// A free y from 100000001 to 150000001 times 10^30.
 pub(crate) const FAR: &[u8] =
     b"ROWS\n N COST\n G A\n L B\nCOLUMNS\n M1 'MARKER' 'INTORG'\n x COST 1\n M2 'MARKER' 'INTEND'\n y A 1 B 1\nRHS\n RHS A 100000001e30 B 150000001e30\nBOUNDS\n FR BND y\nENDATA\n";
 
@@ -68,7 +68,7 @@ pub(crate) const FIFTH: &[u8] =
 pub(crate) const PAIR: &[u8] =
     b"ROWS\n N COST\n L R\nCOLUMNS\n M1 'MARKER' 'INTORG'\n x COST 2 R 2\n z COST -3 R 2\n M2 'MARKER' 'INTEND'\nRHS\n RHS R 5\nBOUNDS\n LO BND x -9\n UP BND x 9\n LO BND z -9\n UP BND z 9\nENDATA\n";
 
-/// y at 1/2 without a cost, and x + z <= 1.00000001 10^38 with a free z.
+/// y at 1/2 without a cost, and x + z <= 100000001 10^30 with a free z.
 pub(crate) const TALL: &[u8] =
     b"ROWS\n N COST\n L R\nCOLUMNS\n M1 'MARKER' 'INTORG'\n x COST 1 R 1\n M2 'MARKER' 'INTEND'\n y COST 0\n z R 1\nRHS\n RHS R 100000001e30\nBOUNDS\n FX BND y 0.5\n FR BND z\nENDATA\n";
 
@@ -76,9 +76,9 @@ pub(crate) const TALL: &[u8] =
 pub(crate) const RATIO: &[u8] =
     b"ROWS\n N COST\n L R\nCOLUMNS\n M1 'MARKER' 'INTORG'\n x COST 1\n M2 'MARKER' 'INTEND'\n y COST -1 R 2\n z R -4\nENDATA\n";
 
-/// Minimise x - w over w <= z <= y, and 3 w - 2 y - 2 z <= 0 with each number taken 5 10^37 times.
+/// Minimise x - w over w <= z <= y, and 150000001 w <= 100000001 (y + z) with each number taken 10^30 times.
 pub(crate) const CHAIN: &[u8] =
-    b"ROWS\n N COST\n L R\n L A\n L B\nCOLUMNS\n M1 'MARKER' 'INTORG'\n x COST 1\n M2 'MARKER' 'INTEND'\n y R -100000000e30 A -1\n z R -100000000e30 A 1\n z B -1\n w COST -1 R 150000000e30\n w B 1\nBOUNDS\n FR BND y\n FR BND z\n FR BND w\nENDATA\n";
+    b"ROWS\n N COST\n L R\n L A\n L B\nCOLUMNS\n M1 'MARKER' 'INTORG'\n x COST 1\n M2 'MARKER' 'INTEND'\n y R -100000001e30 A -1\n z R -100000001e30 A 1\n z B -1\n w COST -1 R 150000001e30\n w B 1\nBOUNDS\n FR BND y\n FR BND z\n FR BND w\nENDATA\n";
 
 /// Minimise -p y - q z over p y <= 1 and q z <= 1, with p and q the two odd numbers next to 10^20.
 pub(crate) const PRIMES: &[u8] =
@@ -92,7 +92,7 @@ pub(crate) const TWO: &[u8] =
 pub(crate) const MIXED: &[u8] =
     b"ROWS\n N COST\n E R\nCOLUMNS\n M1 'MARKER' 'INTORG'\n x COST 1 R 2\n M2 'MARKER' 'INTEND'\n c COST -2 R 1\n w COST 1\nRHS\n RHS R 1\nBOUNDS\n LO BND x -5\n UP BND x 5\n UP BND c 1.5\nENDATA\n";
 
-/// Maximise c, from 0 to 1/2 and no integer, with an integer x in x <= 1.00000001 10^38.
+/// Maximise c, from 0 to 1/2 and no integer, with an integer x in x <= 100000001 10^30.
 pub(crate) const PART: &[u8] =
     b"OBJSENSE MAX\nROWS\n N COST\n L R\nCOLUMNS\n M1 'MARKER' 'INTORG'\n x COST 0 R 1\n M2 'MARKER' 'INTEND'\n c COST 1\nRHS\n RHS R 100000001e30\nBOUNDS\n UP BND x 5\n UP BND c 0.5\nENDATA\n";
 
@@ -100,13 +100,13 @@ pub(crate) const PART: &[u8] =
 pub(crate) const THREE: &[u8] =
     b"OBJSENSE MAX\nROWS\n N COST\nCOLUMNS\n M1 'MARKER' 'INTORG'\n x COST 1\n z COST 1\n w COST 1\n M2 'MARKER' 'INTEND'\nENDATA\n";
 
-/// The same over w <= -5 10^37.
+/// The same over w <= -50000001 10^30.
 pub(crate) const THREE_LOW: &[u8] =
-    b"OBJSENSE MAX\nROWS\n N COST\n L R\nCOLUMNS\n M1 'MARKER' 'INTORG'\n x COST 1\n z COST 1\n w COST 1 R 1\n M2 'MARKER' 'INTEND'\nRHS\n RHS R -50000000e30\nENDATA\n";
+    b"OBJSENSE MAX\nROWS\n N COST\n L R\nCOLUMNS\n M1 'MARKER' 'INTORG'\n x COST 1\n z COST 1\n w COST 1 R 1\n M2 'MARKER' 'INTEND'\nRHS\n RHS R -50000001e30\nENDATA\n";
 
-/// Minimise x + 1.6 10^38 of one integer.
+/// Minimise x + 160000001 10^30 of one integer.
 pub(crate) const RAISED: &[u8] =
-    b"ROWS\n N COST\nCOLUMNS\n M1 'MARKER' 'INTORG'\n x COST 1\n M2 'MARKER' 'INTEND'\nRHS\n RHS COST -160000000e30\nENDATA\n";
+    b"ROWS\n N COST\nCOLUMNS\n M1 'MARKER' 'INTORG'\n x COST 1\n M2 'MARKER' 'INTEND'\nRHS\n RHS COST -160000001e30\nENDATA\n";
 
 /// Minimise -p x - q z of two integers, with those p and q and w in block 1.
 pub(crate) const STEPS: &[u8] =
