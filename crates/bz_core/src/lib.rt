@@ -6,16 +6,19 @@
 
 mod answering;
 mod appending;
+mod certificates;
 mod choices;
 mod copies;
 mod giving_floors;
+mod giving_stops;
 mod handing;
 mod handouts;
 mod outcomes;
+mod reading;
 mod roles;
 mod searches;
+mod stops;
 
 pub use answering::Taken;
-pub use outcomes::Outcome;
 pub use roles::{Next, Role};
 pub use searches::Search;
