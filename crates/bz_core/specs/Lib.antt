@@ -1,5 +1,6 @@
 pub mod Answering
 pub mod Bests
+pub mod Certified
 pub mod Copies
 pub mod Floors
 pub mod Giving

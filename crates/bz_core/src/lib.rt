@@ -6,6 +6,7 @@
 
 mod answering;
 mod appending;
+mod certificates;
 mod choices;
 mod copies;
 mod giving_floors;
