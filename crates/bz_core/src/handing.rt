@@ -71,7 +71,7 @@ impl Search<'_> {
 
     /// The next task for a worker of the role, which is marked: a floor before all else; then by the role a node or a
     /// separation, each the first that isn't handed out. `Idle` where each task is, and `Done` where the search is done or
-    /// called off.
+    /// called off. It takes no memory, and changes nothing but the mark.
     pub fn next_task(&mut self, role: Role) -> Next
         ensures chosen { Chooses self.old.split (now self.old) self.old.marks self.old.quit role result }
         ensures mark { self.new ≡ record self.old { marks = marked result self.old.marks } }

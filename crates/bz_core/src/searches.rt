@@ -73,7 +73,8 @@ fn copy_region(alloc: Global, region: &Region) -> Result<Region, OutOfMemory>
 }
 
 impl<'a> Search<'a> {
-    /// A search that begins: with no entry, and the box of the whole model as its only node.
+    /// A search that begins: with no entry, and the box of the whole model as its only node. Its budget is from 1 to 4,000
+    /// units; a unit is a closed node or an appended cut. It takes memory.
     pub fn begin(alloc: Global, split: &'a Split, budget: u32) -> Result<Search<'a>, OutOfMemory>
         requires positive { 0 < budget }
         requires at_most { budget ≤ greatest_budget }
@@ -97,28 +98,28 @@ impl<'a> Search<'a> {
         })
     }
 
-    /// Calls the search off: no further task is handed out.
+    /// Calls the search off: no further task is handed out, and nothing else changes. It takes no memory.
     pub fn quit(&mut self)
         ensures { self.new ≡ record self.old { quit = true } }
     {
         self.quit = true;
     }
 
-    /// What the search has come to.
+    /// What the search has come to. It takes no memory.
     pub fn outcome(&self) -> Outcome
         ensures { result ≡ outcome_of (now self.now) }
     {
         outcome_of(&self.progress)
     }
 
-    /// How many units are spent.
+    /// How many units are spent: the closed nodes and the appended cuts.
     pub fn units(&self) -> u32
         ensures { result ≡ (now self.now).units }
     {
         self.progress.units()
     }
 
-    /// How many units there are.
+    /// After how many units the search stops.
     pub fn budget(&self) -> u32
         ensures { result ≡ self.now.budget }
     {
