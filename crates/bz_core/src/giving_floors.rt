@@ -79,7 +79,7 @@ impl Search<'_> {
         let TaskName::Floor { block } = s.task else {
             return Ok(Taken::Unfit);
         };
-        match judge_floor(self.split, &self.progress, s) {
+        match judge_floor(self.split, &self.progress, block, &s.lp) {
             Err(refused) => Ok(taken_as(refused)),
             Ok(()) => {
                 let entries = self.accept_floor(stamp, block, s)?;
