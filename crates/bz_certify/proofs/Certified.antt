@@ -36,15 +36,16 @@ use Rattle.bz_history.specs.States.{State, is_open, mode_for}
 use Rattle.bz_history.specs.Steps.{IsAt, IsFilled}
 use Rattle.bz_history.specs.Trees.{IsEnd, IsEndedRight, IsInside, IsTree}
 use Rattle.bz_history.proofs.BestSteps.{best_is_filled}
-use Rattle.bz_history.specs.Budgets.{budget_limit}
+use Rattle.bz_history.specs.Budgets.{greatest_budget}
 use Rattle.bz_history.proofs.CertificateShapes.{certificates_have_their_shape}
 use Rattle.bz_history.proofs.CertificateTrees.{certificates_are_right}
 use Rattle.bz_history.proofs.FinishedSearches.{none_open}
 use Rattle.bz_history.proofs.Lists.{at_one}
+use Rattle.bz_history.proofs.OutcomeSteps.{verdict_is_final}
 use Rattle.bz_history.proofs.PostSteps.{posts_are_right}
 use Rattle.bz_history.proofs.RaySteps.{IsRayOf, ray_is_right}
 use Rattle.bz_history.proofs.TreeSteps.{trees_are_whole}
-use Rattle.bz_certify.specs.Finished.{HasPlaces, HasValue, IsCertificateOf, IsFinished, IsRightCertificate}
+use Rattle.bz_certify.specs.Finished.{HasPlaces, HasValue, IsCertificateOf, IsFinished, IsRightCertificate, verdict_of}
 use Rattle.bz_certify.specs.Walks.{AreClosed, IsClosedAt, IsEndOf}
 
 -- a point is the same where its numbers are
@@ -102,7 +103,7 @@ pub record IsLawful (d : Decomposition) (cuts : List Cut) (nodes : List Node) (p
   pub infeasible : best ≡ None → (tree : Tree) → IsTreeAt nodes 0 tree → (c : Certificate) → IsInfeasibleCertificate cuts tree c → IsGood d c
   pub unbounded : (i : ℕ) → best ≡ Some i → (post : Post) → IsAt posts i post → (r : FallingRay) → ray ≡ Some r → (c : Certificate) → IsUnboundedCertificate d post r c → IsGood d c
 
-state_lawful : (d : Decomposition) (budget : ℕ) (root : Region) (es : List Entry) (t : State) → IsDecomposed d.model d.part → budget ≤ budget_limit → IsReplay d budget root es t → IsLawful d t.cuts t.nodes t.posts t.best t.ray
+state_lawful : (d : Decomposition) (budget : ℕ) (root : Region) (es : List Entry) (t : State) → IsDecomposed d.model d.part → budget ≤ greatest_budget → IsReplay d budget root es t → IsLawful d t.cuts t.nodes t.posts t.best t.ray
 state_lawful d budget root es t dec limit r = record {
   has_tree = passing.has_tree;
   closed = all_closed d root t.cuts t.nodes r.root_is.lower r.root_is.upper (trees_are_whole d budget root es t r);
@@ -140,8 +141,16 @@ lawful d cuts nodes posts best ray dec f =
     (state_lawful d f.budget f.root f.es f.state dec f.limit f.replayed)))))
 
 -- ---- which verdict there is
+-- no node is open, or there are a best point and a direction
+final : (d : Decomposition) (cuts : List Cut) (nodes : List Node) (posts : List Post) (best : Option ℕ) (ray : Option FallingRay) → IsFinished d cuts nodes posts best ray → (list_any is_open nodes ≡ false) ⊎ (IsSome best × IsSome ray)
+final d cuts nodes posts best ray f =
+    subst (λ (x : Option FallingRay). (list_any is_open nodes ≡ false) ⊎ (IsSome best × IsSome x)) f.ray_is
+    (subst (λ (x : Option ℕ). (list_any is_open nodes ≡ false) ⊎ (IsSome x × IsSome f.state.ray)) f.best_is
+    (subst (λ (x : List Node). (list_any is_open x ≡ false) ⊎ (IsSome f.state.best × IsSome f.state.ray)) f.nodes_are
+    (verdict_is_final f.state.stop f.state.ray f.state.best (list_any is_open f.state.nodes) f.verdict)))
+
 pub without_best : (d : Decomposition) (cuts : List Cut) (nodes : List Node) (posts : List Post) (best : Option ℕ) (ray : Option FallingRay) → IsFinished d cuts nodes posts best ray → best ≡ None → list_any is_open nodes ≡ false
-without_best d cuts nodes posts best ray f none = by f.finished
+without_best d cuts nodes posts best ray f none = by (final d cuts nodes posts best ray f)
   where
     by : (list_any is_open nodes ≡ false) ⊎ (IsSome best × IsSome ray) → list_any is_open nodes ≡ false
     by (inl h) = h
@@ -150,7 +159,7 @@ without_best d cuts nodes posts best ray f none = by f.finished
         absurd (cc)
 
 pub without_ray : (d : Decomposition) (cuts : List Cut) (nodes : List Node) (posts : List Post) (best : Option ℕ) (ray : Option FallingRay) → IsFinished d cuts nodes posts best ray → ray ≡ None → list_any is_open nodes ≡ false
-without_ray d cuts nodes posts best ray f none = by f.finished
+without_ray d cuts nodes posts best ray f none = by (final d cuts nodes posts best ray f)
   where
     by : (list_any is_open nodes ≡ false) ⊎ (IsSome best × IsSome ray) → list_any is_open nodes ≡ false
     by (inl h) = h
@@ -181,7 +190,7 @@ pub right_infeasible : (d : Decomposition) (cuts : List Cut) (nodes : List Node)
 right_infeasible d cuts nodes posts best ray l none no_best c h =
     let tree : (tree : Tree) × IsTreeAt nodes 0 tree = l.has_tree none in
     let both : IsGood d c = l.infeasible no_best tree.0 tree.1 c (h tree.0 tree.1) in
-    record { is_certificate = subst (λ (o : Option ℕ). IsCertificateOf d cuts nodes posts o ray c) (sym no_best) h; passes = both.passes; fits = both.fits; shaped = both.shaped }
+    record { verdict_is = (h tree.0 tree.1).verdict ∙ sym (ap (λ (o : Option ℕ). verdict_of o ray) no_best); is_certificate = subst (λ (o : Option ℕ). IsCertificateOf d cuts nodes posts o ray c) (sym no_best) h; passes = both.passes; fits = both.fits; shaped = both.shaped }
 
 pub right_optimal : (d : Decomposition) (cuts : List Cut) (nodes : List Node) (posts : List Post) (best : Option ℕ) (ray : Option FallingRay) → IsLawful d cuts nodes posts best ray → list_any is_open nodes ≡ false → (i : ℕ) → best ≡ Some i → ray ≡ None → (post : Post) → IsAt posts i post
     → (c : Certificate) → ((tree : Tree) → IsTreeAt nodes 0 tree → IsOptimalCertificate d cuts post tree c) → IsRightCertificate d cuts nodes posts best ray c
@@ -189,6 +198,7 @@ right_optimal d cuts nodes posts best ray l none i is no_ray post at c h =
     let tree : (tree : Tree) × IsTreeAt nodes 0 tree = l.has_tree none in
     let both : IsGood d c = l.optimal no_ray i is post at tree.0 tree.1 c (h tree.0 tree.1) in
     record {
+      verdict_is = (h tree.0 tree.1).verdict ∙ sym (ap (λ (o : Option ℕ). verdict_of o ray) is ∙ ap (λ (o : Option FallingRay). verdict_of (Some i) o) no_ray);
       is_certificate = subst (λ (o : Option ℕ). IsCertificateOf d cuts nodes posts o ray c) (sym is) (subst (λ (o : Option FallingRay). IsCertificateOf d cuts nodes posts (Some i) o c) (sym no_ray) each);
       passes = both.passes;
       fits = both.fits;
@@ -203,6 +213,7 @@ pub right_unbounded : (d : Decomposition) (cuts : List Cut) (nodes : List Node) 
 right_unbounded d cuts nodes posts best ray l i is post at r ray_is c h =
     let both : IsGood d c = l.unbounded i is post at r ray_is c h in
     record {
+      verdict_is = h.verdict ∙ sym (ap (λ (o : Option ℕ). verdict_of o ray) is ∙ ap (λ (o : Option FallingRay). verdict_of (Some i) o) ray_is);
       is_certificate = subst (λ (o : Option ℕ). IsCertificateOf d cuts nodes posts o ray c) (sym is) (subst (λ (o : Option FallingRay). IsCertificateOf d cuts nodes posts (Some i) o c) (sym ray_is) each);
       passes = both.passes;
       fits = both.fits;

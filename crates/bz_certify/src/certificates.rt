@@ -1,5 +1,6 @@
 //! The certificate of a search that has come to its end, by its verdict.
 ghost use Rattle.std.specs.Prelude.{◌≡◌, [], IfOk};
+ghost use Rattle.std.specs.Option.{option_copied};
 ghost use Rattle.bz_model.specs.Decomposed.{IsDecomposed};
 ghost use Rattle.bz_event.specs.Nodes.{value_of as value_over};
 ghost use Rattle.bz_history.specs.Certificates.{IsInfeasibleCertificate, IsOptimalCertificate, IsTreeAt, IsUnboundedCertificate, without_etas as without_etas_of};
@@ -167,10 +168,11 @@ pub fn certificate_of(
     nodes: &[Node],
     posts: &[Post],
     best: Option<u32>,
-    ray: &Option<FallingRay>,
+    ray: Option<&FallingRay>,
 ) -> Result<Certificate, OutOfMemory>
-    requires { IsFinished split.now cuts.now nodes.now posts.now best ray.now }
-    ensures { IfOk result (IsRightCertificate split.now cuts.now nodes.now posts.now best ray.now) }
+    requires { IsFinished split.now cuts.now nodes.now posts.now best (option_copied ray) }
+    ensures { IfOk result
+        (IsRightCertificate split.now cuts.now nodes.now posts.now best (option_copied ray.entry)) }
 {
     decomposed(split);
     let Some(number) = best else {

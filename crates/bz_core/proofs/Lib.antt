@@ -3,3 +3,4 @@ pub mod Chosen
 pub mod CopiedTasks
 pub mod FloorsGiven
 pub mod Marking
+pub mod StopsGiven

@@ -3,6 +3,8 @@ use Rattle.std.specs.Prelude.{ℕ, ◌-◌, ◌≡◌, ◌<◌, ◌≤◌, ◌�
 use Rattle.std.specs.List.{slice_get}
 use Rattle.bz_model.specs.Parting.{blocks_of}
 use Rattle.bz_model.specs.Splits.{Decomposition}
+use Rattle.bz_event.specs.declared.tasks.TaskName.{TaskName}
+use Rattle.bz_event.specs.declared.tasks.TaskName.TheVariants as name
 use Rattle.bz_history.specs.declared.state.Filled.{Filled}
 use Rattle.bz_history.specs.declared.state.Node.{Node}
 use Rattle.bz_history.specs.declared.state.Post.{Post}
@@ -123,6 +125,12 @@ marked (next.Node number front) marks = record marks { nodes = set marks.nodes n
 marked (next.Sep number block) marks = record marks { blocks = block_marked marks.blocks number block true }
 marked next.Idle marks = marks
 marked next.Done marks = marks
+
+-- the marks without that of the task
+abbrev pub unmarked : TaskName → Marks → Marks
+unmarked (name.Floor block) marks = record marks { floor = false }
+unmarked (name.Node number front) marks = record marks { nodes = set marks.nodes number false }
+unmarked (name.Sep number block) marks = record marks { blocks = block_marked marks.blocks number block false }
 
 -- there is such a mark
 abbrev pub IsInRange : Next → Marks → Type 0

@@ -1,7 +1,8 @@
 //! Marks of what is handed out.
 ghost use Rattle.std.specs.Prelude.{◌≡◌, ◌<◌, [], ◌∷◌, IfOk, Some, false, length, set};
-ghost use Rattle.bz_core.specs.Handing.{block_marked};
+ghost use Rattle.bz_core.specs.Handing.{block_marked, unmarked};
 
+use bz_event::TaskName;
 use bz_num::{Items, OutOfMemory};
 use std::alloc::Global;
 use std::marker::Model;
@@ -35,12 +36,11 @@ fn put(alloc: Global, marks: &mut Items<bool>, place: usize, mark: bool)
 
 /// The marks of the posts with this one at a block of a post.
 fn mark_block(blocks: &mut Vec<Items<bool>>, post: u32, block: u32, mark: bool)
-    requires { 0 < block }
     ensures { blocks.new.items ≡ block_marked blocks.old.items post block mark }
 {
     let alloc = *blocks.allocator();
     if let Some(of_post) = blocks.get_mut(post as usize) {
-        put(alloc, of_post, block as usize - 1, mark);
+        put(alloc, of_post, (block as usize).saturating_sub(1), mark);
     }
 }
 
@@ -88,17 +88,28 @@ impl Marks {
 
     /// Marks a node, or takes its mark off.
     pub(crate) fn set_node(&mut self, node: u32, mark: bool)
-        requires { node < length self.old.nodes }
         ensures { self.new ≡ record self.old { nodes = set self.old.nodes node mark } }
     {
-        self.nodes[node as usize] = mark;
+        if let Some(old) = self.nodes.get_mut(node as usize) {
+            *old = mark;
+        }
     }
 
     /// Marks a block of a post, or takes its mark off.
     pub(crate) fn set_block(&mut self, post: u32, block: u32, mark: bool)
-        requires { 0 < block }
         ensures { self.new ≡ record self.old { blocks = block_marked self.old.blocks post block mark } }
     {
         mark_block(&mut self.blocks, post, block, mark);
+    }
+
+    /// Takes the mark of a task off.
+    pub(crate) fn take_off(&mut self, task: TaskName)
+        ensures { self.new ≡ unmarked task self.old }
+    {
+        match task {
+            TaskName::Floor { .. } => self.set_floor(false),
+            TaskName::Node { node, .. } => self.set_node(node, false),
+            TaskName::Sep { post, block } => self.set_block(post, block, false),
+        }
     }
 }

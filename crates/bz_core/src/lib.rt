@@ -9,13 +9,15 @@ mod appending;
 mod choices;
 mod copies;
 mod giving_floors;
+mod giving_stops;
 mod handing;
 mod handouts;
 mod outcomes;
+mod reading;
 mod roles;
 mod searches;
+mod stops;
 
 pub use answering::Taken;
-pub use outcomes::Outcome;
 pub use roles::{Next, Role};
 pub use searches::Search;

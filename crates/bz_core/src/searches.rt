@@ -2,13 +2,13 @@
 ghost use Rattle.std.specs.Prelude.{◌≡◌, ◌<◌, ◌≤◌, [], ◌∷◌, IfOk, false, true};
 ghost use Rattle.bz_model.specs.Decomposed.{IsDecomposed};
 ghost use Rattle.bz_history.specs.Histories.{IsRootRegion, count_of};
-ghost use Rattle.bz_core.specs.Outcomes.{outcome_of};
+ghost use Rattle.bz_history.specs.Outcomes.{outcome_of};
 ghost use Rattle.bz_core.specs.Searches.{greatest_budget, now};
 
 use crate::handouts::Marks;
-use crate::outcomes::{Outcome, outcome_of};
+use crate::outcomes::outcome_of;
 use bz_event::Entry;
-use bz_history::Region;
+use bz_history::{Outcome, Region};
 use bz_model::Split;
 use bz_num::{Items, OutOfMemory};
 use bz_state::Progress;

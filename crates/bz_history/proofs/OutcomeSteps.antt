@@ -1,6 +1,6 @@
 -- What a search has come to is true.
-use Rattle.std.proofs.Common.{◌≡◌, refl, sym, ◌∙◌, ap, subst, ℕ, zero, suc, ◌<◌, List, [], ◌∷◌, ◌++◌}
-use Rattle.std.specs.Prelude.{◌↔◌, ◌||◌, ◌&&◌, not, Option, Some, None, Bool, true, false, is_some}
+use Rattle.std.proofs.Common.{◌≡◌, refl, sym, ◌∙◌, ap, subst, ℕ, zero, suc, ◌<◌, List, [], ◌∷◌, ◌++◌, inl, inr}
+use Rattle.std.specs.Prelude.{◌↔◌, ◌⊎◌, ◌||◌, IsSome, ◌&&◌, not, Option, Some, None, Bool, true, false, is_some}
 use Rattle.std.specs.List.{list_any}
 use Rattle.bz_model.specs.Points.{IsInfeasible, IsUnbounded}
 use Rattle.bz_model.specs.Splits.{Decomposition}
@@ -20,7 +20,7 @@ use Rattle.bz_history.specs.declared.state.Stopped.TheVariants as stopped
 use Rattle.bz_history.specs.Budgets.{enough}
 use Rattle.bz_history.specs.Finished.{FinishedIsTrue}
 use Rattle.bz_history.specs.Histories.{IsReplay}
-use Rattle.bz_history.specs.Outcomes.{EndsWide, HasOptimum, IsSpent, OutcomesAreTrue, found, outcome_of, unless_stopped}
+use Rattle.bz_history.specs.Outcomes.{EndsWide, HasOptimum, HasVerdict, IsSpent, OutcomesAreTrue, found, outcome_of, unless_stopped}
 use Rattle.bz_history.specs.States.{State, effect, is_open, mode_for, mode_of}
 use Rattle.bz_history.specs.Steps.{IsAt, IsFilled, MayFollow}
 use Rattle.bz_history.proofs.BestSteps.{best_is_filled}
@@ -96,6 +96,15 @@ wide_is : (stop : Option Stopped) (way : Mode) (best : Option ℕ) (some_open : 
 wide_is (Some stopped.Budget) way best some_open h = absurd (cc)
 wide_is (Some stopped.Wide) way best some_open h = refl
 wide_is None way best some_open h = absurd (found_wide way best some_open h)
+
+-- a verdict comes where no node is open, or with a best post in mode Point
+pub verdict_is_final : (stop : Option Stopped) (ray : Option FallingRay) (best : Option ℕ) (some_open : Bool) → HasVerdict (unless_stopped stop (found (mode_for ray) best some_open)) → (some_open ≡ false) ⊎ (IsSome best × IsSome ray)
+verdict_is_final (Some stopped.Budget) ray best some_open h = absurd h
+verdict_is_final (Some stopped.Wide) ray best some_open h = absurd h
+verdict_is_final None ray best false h = inl refl
+verdict_is_final None None best true h = absurd h
+verdict_is_final None (Some ray) None true h = absurd h
+verdict_is_final None (Some ray) (Some i) true h = inr (refl, refl)
 
 -- ---- stops
 -- where a search isn't done, nothing has stopped it

@@ -30,5 +30,5 @@ EnoughIsEnough =
     list_any is_open t.nodes ≡ true → t.units < enough d root
 
 -- the greatest budget that a search is begun with
-abbrev pub budget_limit : ℕ
-budget_limit = 4000
+abbrev pub greatest_budget : ℕ
+greatest_budget = 4000

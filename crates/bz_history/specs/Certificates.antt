@@ -22,7 +22,7 @@ use Rattle.bz_history.specs.declared.state.FallingRay.{FallingRay}
 use Rattle.bz_history.specs.declared.state.Node.{Node}
 use Rattle.bz_history.specs.declared.state.Post.{Post}
 use Rattle.bz_history.specs.declared.state.Region.{Region}
-use Rattle.bz_history.specs.Budgets.{budget_limit}
+use Rattle.bz_history.specs.Budgets.{greatest_budget}
 use Rattle.bz_history.specs.Finished.{completions, parts_of}
 use Rattle.bz_history.specs.Histories.{IsReplay}
 use Rattle.bz_history.specs.States.{State, is_open, mode_of}
@@ -124,4 +124,4 @@ pub record CertificatesAreShaped (d : Decomposition) (t : State) : Type 0 where
 abbrev pub CertificatesHaveTheirShape : Type 0
 CertificatesHaveTheirShape =
     (d : Decomposition) (budget : ℕ) (root : Region) (es : List Entry) (t : State) → IsDecomposed d.model d.part →
-    budget ≤ budget_limit → IsReplay d budget root es t → CertificatesAreShaped d t
+    budget ≤ greatest_budget → IsReplay d budget root es t → CertificatesAreShaped d t

@@ -45,6 +45,15 @@ unless_stopped (Some stopped.Wide) out = outcome.Wide
 abbrev pub outcome_of : State → Outcome
 outcome_of t = unless_stopped t.stop (found (mode_of t) t.best (list_any is_open t.nodes))
 
+-- a verdict: that is shown by a certificate
+abbrev pub HasVerdict : Outcome → Type 0
+HasVerdict outcome.Running = ⊥
+HasVerdict outcome.Optimal = Unit {0}
+HasVerdict outcome.Infeasible = Unit {0}
+HasVerdict outcome.Unbounded = Unit {0}
+HasVerdict outcome.Budget = ⊥
+HasVerdict outcome.Wide = ⊥
+
 -- The best post has its shape, each point of its parts is optimal, and their value is its objective.
 pub record HasOptimum (d : Decomposition) (t : State) : Type 0 where
   pub post : Post

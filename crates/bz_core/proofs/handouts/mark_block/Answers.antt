@@ -6,7 +6,8 @@ pub returns-in-Some : goal.returns-in-Some
 returns-in-Some c =
     let within : c.args.post < length c.args.blocks.now.items = search rules in
     let at : c.in-Some.of_post.now ≡ get_or c.args.blocks.now.items c.args.post c.in-Some.of_post.now = search rules in
-    rw c.put.ensures (write_changed (λ of_post. set of_post (c.args.block - 1) c.args.mark) c.args.blocks.now.items c.args.post c.in-Some.of_post.now within at)
+    let place : c.saturating_sub.result ≡ c.args.block - 1 = search rules in
+    rw (c.put.ensures, place) (write_changed (λ of_post. set of_post (c.args.block - 1) c.args.mark) c.args.blocks.now.items c.args.post c.in-Some.of_post.now within at)
 
 pub returns-in_default : goal.returns-in_default
 returns-in_default c =
