@@ -47,7 +47,7 @@ use Rattle.bz_history.proofs.CoverSteps.{points_with}
 use Rattle.bz_history.proofs.Lists.{at_end, changed_here}
 use Rattle.bz_history.proofs.SplitColumns.{splits_at}
 use Rattle.bz_rules.specs.Entries.{best_post, is_better, is_reached, leaf_events, node_events, node_task_events, point_events, reaching, unless_reaching}
-use Rattle.bz_rules.specs.Following.{FollowInTurn, IsSearch}
+use Rattle.bz_rules.specs.Following.{FollowInTurn, IsUnderWay}
 use Rattle.bz_rules.specs.Laws.{NodesFollow}
 use Rattle.bz_rules.specs.Rules.{node_rules, node_task_rules}
 use Rattle.bz_rules.proofs.BestPosts.{better_found, better_later, better_there, reaches_found}
@@ -81,7 +81,7 @@ leaf_told m part box other cuts others way lp h value den (Some leaf) mode.Cost 
 }
 leaf_told m part box other cuts others way lp h value den o mode.Point l = l
 
-module _ (d : Decomposition) (budget : ℕ) (root : Region) (es : List Entry) (t : State) (search : IsSearch d budget root es t)
+module _ (d : Decomposition) (budget : ℕ) (root : Region) (es : List Entry) (t : State) (search : IsUnderWay d budget root es t)
     (number front : ℕ) (lp : Lp) (running : is_done t ≡ false) (task : IsTask d t number front lp) where
   -- ---- closed by a leaf
   leaf_close : (leaf : Leaf) → LeafHolds d.model d.part (box_of task.x.region) (take front t.cuts) leaf → FitsLeaf d.model d.part (box_of task.x.region) (take front t.cuts) leaf → ReachesBest d t leaf

@@ -38,7 +38,7 @@ use Rattle.bz_history.proofs.Lists.{all_at, at_one, changed_here}
 use Rattle.bz_history.proofs.LiveSteps.{lives_are_right}
 use Rattle.bz_history.proofs.PostSteps.{posts_are_right}
 use Rattle.bz_rules.specs.Entries.{IsKnown, IsKnownAnswer, cut_events, fill_events, is_better, is_last, leaf_events, separation_events, separation_task_events}
-use Rattle.bz_rules.specs.Following.{FollowInTurn, IsSearch}
+use Rattle.bz_rules.specs.Following.{FollowInTurn, IsUnderWay}
 use Rattle.bz_rules.specs.Laws.{SeparationsFollow}
 use Rattle.bz_rules.specs.Rules.{separation_rules, separation_task_rules}
 use Rattle.bz_rules.proofs.BestPosts.{better_later, better_there}
@@ -67,7 +67,7 @@ not_true true h = absurd (cc)
 same_off : (known cut : Cut) (point : Master) → AreSame known cut → CutsOff cut point → CutsOff known point
 same_off known cut point same off = rw (same.beta, same.alpha, same.p0, same.block) off
 
-module _ (d : Decomposition) (budget : ℕ) (root : Region) (es : List Entry) (t : State) (search : IsSearch d budget root es t)
+module _ (d : Decomposition) (budget : ℕ) (root : Region) (es : List Entry) (t : State) (search : IsUnderWay d budget root es t)
     (number block : ℕ) (lp : Lp) (post : Post) (is_post : IsAt t.posts number post) (running : is_done t ≡ false)
     (program : IsSeparationLp d.model d.part post.point block (mode_of t) lp) where
   own : IsPostOf d (mode_of t) t.nodes t.cuts post
@@ -150,7 +150,7 @@ module _ (d : Decomposition) (budget : ℕ) (root : Region) (es : List Entry) (t
     pub fill_follows : FollowInTurn d budget t (fill_events d t number block y (Some post))
     fill_follows = (running, fill_step, completed (is_last block y t.entries post) refl)
 
-module _ (d : Decomposition) (budget : ℕ) (root : Region) (es : List Entry) (t : State) (s : Solved SepAnswer) (search : IsSearch d budget root es t)
+module _ (d : Decomposition) (budget : ℕ) (root : Region) (es : List Entry) (t : State) (s : Solved SepAnswer) (search : IsUnderWay d budget root es t)
     (k : SolvesSomeSeparation d.model d.part s) where
   point_here : (post : Post) → s.point ≡ Some post.point → k.point ≡ post.point
   point_here post is =

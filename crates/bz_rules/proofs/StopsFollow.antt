@@ -22,14 +22,14 @@ use Rattle.bz_history.specs.declared.state.Post.{Post}
 use Rattle.bz_history.specs.declared.state.Region.{Region}
 use Rattle.bz_history.specs.States.{State, box_of, is_done, mode_of}
 use Rattle.bz_history.specs.Steps.{IsStopStep, IsStoppedFloor, IsStoppedNode, IsStoppedSeparation}
-use Rattle.bz_rules.specs.Following.{IsSearch}
+use Rattle.bz_rules.specs.Following.{IsUnderWay}
 use Rattle.bz_rules.specs.Laws.{StopsFollow}
 use Rattle.bz_rules.specs.Rules.{floor_rules, node_rules, stop_rules, stop_task_rules, stopped_rules}
 use Rattle.bz_rules.proofs.FloorsFollow.{next_floor}
 use Rattle.bz_rules.proofs.GoingOn.{stop_follows}
 use Rattle.bz_rules.proofs.Tasks.{IsAnswered, IsTask, block_in_point, both, box_of_node, cuts_of_split, one_mode, task_of, there, wide_in_node_told}
 
-module _ (d : Decomposition) (budget : ℕ) (root : Region) (es : List Entry) (t : State) (s : Solved WideAt) (search : IsSearch d budget root es t) where
+module _ (d : Decomposition) (budget : ℕ) (root : Region) (es : List Entry) (t : State) (s : Solved WideAt) (search : IsUnderWay d budget root es t) where
   -- ---- floors
   floor_stops : (k : StopsSomeFloor d.model d.part s) → AllHold (floor_rules d t k.block s.lp) → IsStoppedFloor d t s
   floor_stops k h = record { block = k.block; next = next_floor d t k.block s.lp h; stops = k.stops }

@@ -36,7 +36,7 @@ use Rattle.bz_history.specs.Trees.{IsInside}
 use Rattle.bz_history.proofs.PoolSteps.{pools_are_right}
 use Rattle.bz_history.proofs.RaySteps.{IsRayOf, ray_is_right}
 use Rattle.bz_history.proofs.TreeSteps.{trees_are_whole}
-use Rattle.bz_rules.specs.Following.{IsSearch}
+use Rattle.bz_rules.specs.Following.{IsUnderWay}
 use Rattle.bz_rules.specs.Rules.{Rules, node_rules, waiting_rules, where_there}
 
 -- ---- rules
@@ -101,7 +101,7 @@ pub record IsAnswered (m : Model) (part : List ℕ) (box : Box) (cuts : List Cut
   pub program : IsNodeLp m part box cuts way lp
 
 pub both : (d : Decomposition) (budget : ℕ) (root : Region) (es : List Entry) (t : State) (number front : ℕ) (box : Box) (cuts : List Cut) (way : Mode) (lp : Lp)
-    → IsSearch d budget root es t → (k : IsTask d t number front lp) → IsAnswered d.model d.part box cuts way lp
+    → IsUnderWay d budget root es t → (k : IsTask d t number front lp) → IsAnswered d.model d.part box cuts way lp
     → IsOfBoth d.model d.part box (box_of k.x.region) cuts (take front t.cuts) way (mode_of t) lp
 both d budget root es t number front box cuts way lp search k a = record {
   decomposed = search.decomposed;
@@ -118,7 +118,7 @@ no_point part mode.Point h none =
     absurd (omega (arith, some, none))
 
 pub one_mode : (d : Decomposition) (budget : ℕ) (root : Region) (es : List Entry) (t : State) (number front : ℕ) (box : Box) (cuts : List Cut) (way : Mode) (lp : Lp)
-    → IsSearch d budget root es t → (k : IsTask d t number front lp) → IsAnswered d.model d.part box cuts way lp → way ≡ mode_of t
+    → IsUnderWay d budget root es t → (k : IsTask d t number front lp) → IsAnswered d.model d.part box cuts way lp → way ≡ mode_of t
 one_mode d budget root es t number front box cuts way lp search k a = elim (cases_lt 0 (blocks_of d.part)) [
   | inl some ↦ mode_told d.model d.part box (box_of k.x.region) cuts (take front t.cuts) way (mode_of t) lp (both d budget root es t number front box cuts way lp search k a) some
   | inr few ↦

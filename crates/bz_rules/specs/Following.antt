@@ -25,8 +25,8 @@ stamped worker count (e ∷ es) =
 abbrev pub HasUnits : (budget : ℕ) → State → Type 0
 HasUnits budget t = is_done t ≡ false → t.units < budget
 
--- the state of a legal history, with units left
-pub record IsSearch (d : Decomposition) (budget : ℕ) (root : Region) (es : List Entry) (t : State) : Type 0 where
+-- the state of a legal history, with units left unless the search is done
+pub record IsUnderWay (d : Decomposition) (budget : ℕ) (root : Region) (es : List Entry) (t : State) : Type 0 where
   pub decomposed : IsDecomposed d.model d.part
   pub replayed : IsReplay d budget root es t
   pub units : HasUnits budget t

@@ -17,7 +17,7 @@ use Rattle.bz_history.specs.declared.state.Region.{Region}
 use Rattle.bz_history.specs.Histories.{IsReplay, count_of}
 use Rattle.bz_history.specs.States.{State}
 use Rattle.bz_rules.specs.Entries.{IsKnownAnswer, after, and_stop, floor_entries, node_entries, separation_entries, stop_entries}
-use Rattle.bz_rules.specs.Following.{FollowInTurn, HasUnits, IsSearch, stamped}
+use Rattle.bz_rules.specs.Following.{FollowInTurn, HasUnits, IsUnderWay, stamped}
 use Rattle.bz_rules.specs.Rules.{floor_answer_rules, node_answer_rules, separation_answer_rules, stop_answer_rules}
 
 -- Events that follow in turn, stamped by a worker from the number of its entries up, make a legal history of the state after
@@ -34,23 +34,23 @@ pub record HistoriesGoOn : Type 0 where
 abbrev pub FloorsFollow : Type 0
 FloorsFollow =
     (d : Decomposition) (budget : ℕ) (root : Region) (es : List Entry) (t : State) (s : Solved FloorAnswer) →
-    IsSearch d budget root es t → SolvesSomeFloor d.model d.part s → AllHold (floor_answer_rules d t s) →
+    IsUnderWay d budget root es t → SolvesSomeFloor d.model d.part s → AllHold (floor_answer_rules d t s) →
     FollowInTurn d budget t (floor_entries d budget t s)
 
 abbrev pub NodesFollow : Type 0
 NodesFollow =
     (d : Decomposition) (budget : ℕ) (root : Region) (es : List Entry) (t : State) (s : Solved NodeAnswer) →
-    IsSearch d budget root es t → SolvesSomeNode d.model d.part s → AllHold (node_answer_rules d t s) →
+    IsUnderWay d budget root es t → SolvesSomeNode d.model d.part s → AllHold (node_answer_rules d t s) →
     FollowInTurn d budget t (node_entries d budget t s)
 
 abbrev pub SeparationsFollow : Type 0
 SeparationsFollow =
     (d : Decomposition) (budget : ℕ) (root : Region) (es : List Entry) (t : State) (known : Option ℕ) (s : Solved SepAnswer) →
-    IsSearch d budget root es t → SolvesSomeSeparation d.model d.part s → AllHold (separation_answer_rules d t s) →
+    IsUnderWay d budget root es t → SolvesSomeSeparation d.model d.part s → AllHold (separation_answer_rules d t s) →
     IsKnownAnswer t.cuts known s.answer → FollowInTurn d budget t (separation_entries d budget t known s)
 
 abbrev pub StopsFollow : Type 0
 StopsFollow =
     (d : Decomposition) (budget : ℕ) (root : Region) (es : List Entry) (t : State) (s : Solved WideAt) →
-    IsSearch d budget root es t → StopsSomeTask d.model d.part s → AllHold (stop_answer_rules d t s) →
+    IsUnderWay d budget root es t → StopsSomeTask d.model d.part s → AllHold (stop_answer_rules d t s) →
     FollowInTurn d budget t (stop_entries d budget t s)
