@@ -1,7 +1,9 @@
 -- Directions along which the cost falls freely, and the signs of a column that say so.
-use Rattle.std.specs.Prelude.{ℕ, ◌+◌, ◌-◌, ◌<◌, ◌≡◌, ◌≢◌, ◌⊎◌, ℤ, pos, ◌+ℤ◌, ◌-ℤ◌, ◌*ℤ◌, neg_ℤ, ◌≤ℤ◌, ◌<ℤ◌, false}
+use Rattle.std.specs.Prelude.{ℕ, ◌+◌, ◌-◌, ◌<◌, ◌≡◌, ◌≢◌, ◌⊎◌, ℤ, pos, ◌+ℤ◌, ◌-ℤ◌, ◌*ℤ◌, neg_ℤ, ◌≤ℤ◌, ◌<ℤ◌, unsigned_abs, List, length, take, drop, ◌++◌, false}
 use Rattle.std.proofs.Common.{refl, ap, sym, subst, ◌∙◌, arith, inl, inr}
+use Rattle.std.proofs.Math.Seq.{take-length}
 use Rattle.std.proofs.lemmas.Bool.{cases_eq}
+use Rattle.std.proofs.lemmas.List.{take-append-le}
 use Rattle.std.proofs.lemmas.Int.{ints}
 use Rattle.std.proofs.Math.IntN.{*ℤ_comm}
 use Rattle.bz_algebra.specs.Sums.{upto}
@@ -227,3 +229,11 @@ module _ (p : Program) (basis : ℕ → ℕ) (v w : ℕ → ℕ → ℤ) (rows :
       free = λ k b. nonpositive_factor (f c) (v k c) rising
           (omega (arith, ints, *ℤ_comm (f c) (v k c), two k b, mul_nonnegative (v k (basis k)) (f (basis k)) (omega (arith, ints, (rows.rows k b).positive)) (nowhere_negative (basis k) (rows.columns.in_range k b))));
     }
+
+-- ---- a direction divided in place
+pub size_negated : (d : ℤ) → unsigned_abs (pos 0 -ℤ d) ≡ unsigned_abs d
+size_negated d = omega (arith, ints)
+
+-- a slice of the whole list, written back, is the list
+pub written_back : (n : ℕ) (new items : List ℤ) → n ≡ length items → length new ≡ length items → take n (new ++ drop (length new) items) ≡ new
+written_back n new items e f = take-append-le n new (drop (length new) items) (omega arith) ∙ subst (λ (m : ℕ). take m new ≡ new) (f ∙ sym e) (take-length new)

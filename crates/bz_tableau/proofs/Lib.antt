@@ -5,6 +5,7 @@ pub mod GivenAnswers
 pub mod OneObjective
 pub mod Reductions
 pub mod RowsOfBasis
+pub mod SparseRows
 pub mod TrueAnswers
 pub mod Turned
 pub mod Turns

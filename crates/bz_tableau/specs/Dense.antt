@@ -1,5 +1,6 @@
 -- What a pivot makes of two rows with one number for each column.
 use Rattle.std.specs.Prelude.{ℕ, suc, ◌<◌, ◌≡◌, ◌≢◌, ◌⊎◌, ℤ, pos, ◌-ℤ◌, ◌*ℤ◌, ◌<ℤ◌, List, length}
+use Rattle.std.proofs.Math.IntN.{neg_ℤ}
 use Rattle.std.specs.Int.{IsGcd}
 use Rattle.std.specs.Int.RustNames.{unsigned_abs}
 use Rattle.bz_algebra.specs.Numbers.{IsNarrow, IsWide}
@@ -13,6 +14,14 @@ pub record AreMultipliers (p r kept taken : ℤ) : Type 0 where
   pub is_gcd : IsGcd (unsigned_abs p) (unsigned_abs r) divisor
   pub divides : p ≡ pos divisor *ℤ kept
   pub divides_other : r ≡ pos divisor *ℤ taken
+
+-- the multipliers, both with the sign by which the row is taken positively
+pub record AreTurnedMultipliers (p r kept taken : ℤ) : Type 0 where
+  pub plain_kept : ℤ
+  pub plain_taken : ℤ
+  pub multipliers : AreMultipliers p r plain_kept plain_taken
+  pub signs : ((kept ≡ plain_kept) × (taken ≡ plain_taken)) ⊎ ((kept ≡ neg_ℤ plain_kept) × (taken ≡ neg_ℤ plain_taken))
+  pub positive : (pos 0) <ℤ kept
 
 -- a product or their difference is wide
 abbrev pub IsWideStep : ℤ → ℤ → ℤ → ℤ → Type 0
@@ -60,6 +69,11 @@ pub record IsNextLine (row pivot : List ℤ) (e own : ℕ) (new : List ℤ) : Ty
   pub width : length new ≡ length row
   pub made : (s : Equations) → length row ≡ suc (side s) → IsNewRow s (entry row) (entry pivot) e own (entry new)
   pub narrow : IsWideRow pivot row e → ⊥
+
+-- new is the row with the other sign
+pub record IsNegated (row new : List ℤ) : Type 0 where
+  pub width : length new ≡ length row
+  pub numbers : (j : ℕ) → j < length row → entry new j ≡ neg_ℤ (entry row j)
 
 -- new is the pivot row, primitive and positive in the column e
 pub record IsMovedLine (pivot : List ℤ) (e : ℕ) (new : List ℤ) : Type 0 where

@@ -6,6 +6,7 @@ pub mod Pivots
 pub mod Points
 pub mod Programs
 pub mod Refusals
+pub mod Sparse
 pub mod Stops
 pub mod Tables
 pub mod Truths

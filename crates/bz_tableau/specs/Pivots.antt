@@ -1,7 +1,9 @@
 -- What a pivot makes of a table.
-use Rattle.std.specs.Prelude.{ℕ, ◌<◌, ◌≡◌, ◌≢◌, ℤ, List, length, slice_set}
+use Rattle.std.specs.Prelude.{ℕ, ◌<◌, ◌≡◌, ◌≢◌, ℤ, List, [], ◌∷◌, length, slice_set, Option, Some, None}
 use Rattle.bz_algebra.specs.Tableaus.{Equations, IsPivot, Made}
 use Rattle.bz_tableau.specs.Dense.{entry, IsWideRow, IsNextLine, IsMovedLine}
+use Rattle.bz_tableau.specs.declared.next.Turned.{Turned}
+use Rattle.bz_tableau.specs.declared.next.Turned.TheVariants.{Kept, New, Wide}
 use Rattle.bz_tableau.specs.Tables.{Table, line, number, own, IsTableOf}
 
 -- row i, which isn't the pivot row, can't be cleared without a wide number
@@ -20,6 +22,19 @@ pub record IsFirstWideRow (rows : List (List ℤ)) (r e i : ℕ) : Type 0 where
 pub record IsTurnedLine (slack : ℕ) (basis : List ℕ) (rows : List (List ℤ)) (r e i : ℕ) (new : List ℤ) : Type 0 where
   pub other : i ≢ r → IsNextLine (line rows i) (line rows r) e (own slack basis i) new
   pub moved : i ≡ r → IsMovedLine (line rows r) e new
+
+-- what becomes of row i by the pivot: it stays, a new row takes its place, or it can't be cleared without a wide number
+abbrev pub IsTurned : ℕ → List ℕ → List (List ℤ) → ℕ → ℕ → ℕ → Turned → Type 0
+IsTurned slack basis rows r e i Kept = IsTurnedLine slack basis rows r e i (line rows i)
+IsTurned slack basis rows r e i (New new) = IsTurnedLine slack basis rows r e i new
+IsTurned slack basis rows r e i Wide = IsWideLine rows r e i
+
+-- the rows with those that are given in their places
+abbrev pub replaced : List (List ℤ) → List (Option (List ℤ)) → List (List ℤ)
+replaced rows [] = []
+replaced [] (change ∷ changes) = []
+replaced (row ∷ rows) (None ∷ changes) = row ∷ replaced rows changes
+replaced (row ∷ rows) (Some new ∷ changes) = new ∷ replaced rows changes
 
 -- the rows new are the rows of the pivot at place r in the column e
 pub record AreNextLines (slack : ℕ) (basis : List ℕ) (rows : List (List ℤ)) (r e : ℕ) (new : List (List ℤ)) : Type 0 where

@@ -7,9 +7,9 @@ ghost use Rattle.bz_algebra.specs.Tableaus.{side, row_entry, objective_entry};
 ghost use Rattle.bz_tableau.specs.First.{first_number, IsFirstLineTo, AreFirstLinesTo};
 ghost use Rattle.bz_tableau.specs.Programs.{IsLp, lp_equations, program_of, rhs_of, terms_of};
 
-use crate::line::Line;
+use crate::line::{Line, push_line};
 use crate::programs::Lp;
-use bz_num::SparseRow;
+use bz_num::{OutOfMemory, SparseRow};
 use std::alloc::{AllocError, Global};
 
 /// The number of the first slack: how many columns stand before the slacks.
@@ -130,22 +130,22 @@ fn first_entry(lp: &Lp, relaxed: bool, i: usize, j: usize) -> i128
 }
 
 // A row with a number for each column.
-fn first_line(alloc: Global, lp: &Lp, relaxed: bool, i: usize) -> Result<Line, AllocError>
+fn first_line(alloc: Global, lp: &Lp, relaxed: bool, i: usize) -> Result<Line, OutOfMemory>
     requires lp { IsLp lp.now }
     requires row { i < suc (length lp.now.rows) }
     ensures { IfOk result (λ row.
         IsFirstLineTo (suc (side (lp_equations relaxed lp.now))) (lp_equations relaxed lp.now) i row) }
 {
     let width = first_slack(lp, relaxed) + lp.rows.as_slice().len() + 2;
-    let mut numbers = Vec::with_capacity(alloc, width)?;
+    let mut terms = SparseRow::from_vec(Vec::with_capacity(alloc, 4)?);
     for j in 0..width {
-        numbers.push(first_entry(lp, relaxed, i, j))?;
+        terms.push(j as u32, first_entry(lp, relaxed, i, j))?;
     }
-    Ok(Line::from_vec(numbers))
+    Ok(Line::from_terms(width, terms))
 }
 
 /// The rows of the program and its objective, with a number for each column.
-pub fn first_lines(alloc: Global, lp: &Lp, relaxed: bool) -> Result<Vec<Line>, AllocError>
+pub fn first_lines(alloc: Global, lp: &Lp, relaxed: bool) -> Result<Vec<Line>, OutOfMemory>
     requires { IsLp lp.now }
     ensures { IfOk result (λ rows.
         AreFirstLinesTo (suc (length lp.now.rows)) (lp_equations relaxed lp.now) rows.items) }
@@ -153,7 +153,7 @@ pub fn first_lines(alloc: Global, lp: &Lp, relaxed: bool) -> Result<Vec<Line>, A
     let count = lp.rows.as_slice().len() + 1;
     let mut rows = Vec::with_capacity(alloc, count)?;
     for i in 0..count {
-        rows.push(first_line(alloc, lp, relaxed, i)?)?;
+        push_line(&mut rows, first_line(alloc, lp, relaxed, i)?)?;
     }
     Ok(rows)
 }

@@ -9,6 +9,7 @@ mod answers;
 mod first;
 mod laws;
 mod line;
+mod merging;
 mod next;
 mod programs;
 mod reducing;

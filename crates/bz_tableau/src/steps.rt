@@ -1,10 +1,9 @@
 //! A row cleared in a column by another, number by number.
-ghost use Rattle.std.specs.Prelude.{◌≡◌, ◌≢◌, pos, ◌*ℤ◌, ◌-ℤ◌, SomeIff, IfOk, MatchOption, length};
+ghost use Rattle.std.specs.Prelude.{◌≢◌, pos, ◌*ℤ◌, ◌-ℤ◌, SomeIff};
 ghost use Rattle.bz_algebra.specs.Numbers.{IsNarrow};
-ghost use Rattle.bz_tableau.specs.Dense.{AreMultipliers, IsNarrowStep, IsCombined, HasWideStep};
+ghost use Rattle.bz_tableau.specs.Dense.{AreMultipliers, AreTurnedMultipliers, IsNarrowStep};
 
-use bz_num::{exact_quotient, gcd, narrow_difference, narrow_product};
-use std::alloc::{AllocError, Global};
+use bz_num::{exact_quotient, gcd, narrow_difference, narrow_negation, narrow_product};
 
 /// How often the row and the pivot row are taken: their entries in the pivot's column, divided by the greatest common
 /// divisor, crosswise.
@@ -14,17 +13,37 @@ pub struct Multipliers {
     pub taken: i128,
 }
 
-/// The multipliers of a pivot row's entry and of a row's entry.
-pub fn find_multipliers(pivot: i128, number: i128) -> Multipliers
+// The multipliers of a pivot row's entry and of a row's entry.
+fn find_multipliers(pivot: i128, number: i128) -> Multipliers
     requires pivot_narrow { IsNarrow pivot }
     requires number_narrow { IsNarrow number }
     requires nonzero { pivot ≢ pos 0 }
-    ensures { AreMultipliers pivot number result.kept result.taken }
+    ensures multipliers { AreMultipliers pivot number result.kept result.taken }
+    ensures kept_narrow { IsNarrow result.kept }
+    ensures taken_narrow { IsNarrow result.taken }
 {
     let divisor = gcd(pivot, number);
     Multipliers {
         kept: exact_quotient(pivot, divisor),
         taken: exact_quotient(number, divisor),
+    }
+}
+
+/// The multipliers of a pivot row's entry and of a row's entry, both with the sign by which the row is taken positively.
+pub fn turned_multipliers(pivot: i128, number: i128) -> Multipliers
+    requires pivot_narrow { IsNarrow pivot }
+    requires number_narrow { IsNarrow number }
+    requires nonzero { pivot ≢ pos 0 }
+    ensures { AreTurnedMultipliers pivot number result.kept result.taken }
+{
+    let times = find_multipliers(pivot, number);
+    if times.kept < 0 {
+        Multipliers {
+            kept: narrow_negation(times.kept),
+            taken: narrow_negation(times.taken),
+        }
+    } else {
+        times
     }
 }
 
@@ -39,27 +58,4 @@ pub fn cleared(kept: i128, number: i128, taken: i128, pivot: i128) -> Option<i12
         },
         None => None,
     }
-}
-
-/// `kept row - taken pivot`, where no step is wide.
-pub fn combine(
-    alloc: Global,
-    kept: i128,
-    row: &[i128],
-    taken: i128,
-    pivot: &[i128],
-) -> Result<Option<Vec<i128>>, AllocError>
-    requires { length row.now ≡ length pivot.now }
-    ensures { IfOk result (λ outcome. MatchOption outcome
-        (HasWideStep kept row.now taken pivot.now)
-        (λ new. IsCombined kept row.now taken pivot.now new.items)) }
-{
-    let mut new = Vec::with_capacity(alloc, row.len())?;
-    for j in 0..row.len() {
-        match cleared(kept, row[j], taken, pivot[j]) {
-            Some(number) => new.push(number)?,
-            None => return Ok(None),
-        }
-    }
-    Ok(Some(new))
 }

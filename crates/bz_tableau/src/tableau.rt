@@ -11,7 +11,7 @@ ghost use Rattle.bz_tableau.specs.Tables.{number, shown, factor_column, IsTablea
 use crate::answers::{LpStop, WideAt};
 use crate::first::{first_basis, first_lines, first_slack};
 use crate::line::Line;
-use crate::next::next_lines;
+use crate::next::{next_lines, put_lines};
 use crate::programs::Lp;
 use bz_num::{Items, OutOfMemory};
 use std::alloc::{AllocError, Global};
@@ -100,7 +100,7 @@ impl Tableau {
     {
         let factor = self.columns();
         let place = if column == factor { factor + 1 } else { column };
-        self.rows[row as usize].as_slice()[place as usize]
+        self.rows[row as usize].at(place)
     }
 
     /// The right side of a row of the program. It takes no memory.
@@ -135,7 +135,7 @@ impl Tableau {
         ensures positive { pos 0 <ℤ result }
         ensures narrow { IsNarrow result }
     {
-        self.rows[self.basis.len()].as_slice()[self.columns() as usize]
+        self.rows[self.basis.len()].at(self.columns())
     }
 
     /// Puts the column at the place of the row in the basis, and makes the rows of that basis. It is refused where a
@@ -154,10 +154,10 @@ impl Tableau {
             self.basis.as_slice(),
             self.rows.as_slice(),
             row as usize,
-            column as usize,
+            column,
         )? {
-            Ok(rows) => {
-                self.rows = rows;
+            Ok(changes) => {
+                put_lines(&mut self.rows, changes);
                 self.basis[row as usize] = column;
                 Ok(())
             },

@@ -1,7 +1,7 @@
 -- The values over minus the denominator, the column at the denominator, and all of it divided.
 use Rattle.std.proofs.Common.{rules, arith, FitsSigned, to_z-of_z, ◌≡◌, ap, sym, subst, ◌∙◌, pos, ◌-ℤ◌, ℤ, List, length}
 use Rattle.std.specs.Int.{w128}
-use Rattle.bz_tableau.proofs.Reductions.{size_negated, written_back}
+use Rattle.bz_lex.proofs.RaySigns.{size_negated, written_back}
 use Rattle.bz_lex.specs.Shown.{IsShownMove}
 use Rattle.bz_lex.proofs.Moves.{move_of, minus}
 use Rattle.bz_lex.proofs.ray.direction.Goals as goal

@@ -22,8 +22,8 @@ exact_quotient-requires-2-clause-divides c =
     let fits : FitsSigned w128 c.gcd-divisor.result = search rules in
     rw (to_z-of_z fits) c.gcd-divisor.ensures.divides.1
 
-pub returns : goal.returns
-returns c =
+pub returns-clause-multipliers : goal.returns-clause-multipliers
+returns-clause-multipliers c =
     let fits : FitsSigned w128 c.gcd-divisor.result = search rules in
     let pivot_fits : FitsSigned w128 c.args.pivot = c.ranges.pivot in
     let number_fits : FitsSigned w128 c.args.number = c.ranges.number in
