@@ -27,7 +27,7 @@ fn none<T>(alloc: Global) -> Items<T>
 }
 
 /// The same cuts.
-fn copies(alloc: Global, cuts: &[Cut]) -> Result<Items<Cut>, OutOfMemory>
+pub fn copies(alloc: Global, cuts: &[Cut]) -> Result<Items<Cut>, OutOfMemory>
     ensures { IfOk result (λ list. list ≡ cuts.now) }
 {
     let mut list = Vec::new(alloc);
@@ -51,7 +51,7 @@ fn completions(alloc: Global, fills: &[Option<Filled>]) -> Result<Items<BlockPar
 }
 
 /// The point with its completions.
-fn parts_of(alloc: Global, post: &Post) -> Result<Parts, OutOfMemory>
+pub fn parts_of(alloc: Global, post: &Post) -> Result<Parts, OutOfMemory>
     ensures { IfOk result (λ parts. parts ≡ parts_in post.now) }
 {
     Ok(Parts {

@@ -4,7 +4,7 @@
 mod certificates;
 mod trees;
 
-pub use certificates::certificate_of;
+pub use certificates::{certificate_of, copies, parts_of};
 pub use trees::tree_of;
 
 #[cfg(test)]

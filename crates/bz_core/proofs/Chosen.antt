@@ -6,8 +6,9 @@ use Rattle.std.proofs.lemmas.Option.{slice_get_within}
 use Rattle.bz_model.specs.Parting.{blocks_of}
 use Rattle.bz_model.specs.Splits.{Decomposition}
 use Rattle.bz_history.specs.declared.state.FallingRay.{FallingRay}
-use Rattle.bz_history.specs.States.{State}
-use Rattle.bz_history.specs.Steps.{AreFloorsReady, IsNextFloor}
+use Rattle.bz_history.specs.declared.state.Node.{Node}
+use Rattle.bz_history.specs.States.{State, least_front, mode_of}
+use Rattle.bz_history.specs.Steps.{AreFloorsReady, IsAt, IsFrontOf, IsNextFloor}
 use Rattle.bz_history.proofs.Lists.{all_at}
 use Rattle.bz_core.specs.declared.roles.Role.{Role}
 use Rattle.bz_core.specs.declared.roles.Role.TheVariants as role
@@ -95,25 +96,29 @@ floor_handed d t marks block next handed = record {
 }
 
 -- ---- the choice
+over_all_cuts : (d : Decomposition) (t : State) (x : Node) (front : ℕ) → front ≡ length t.cuts → least_front d (mode_of t) x ≤ length t.cuts → IsFrontOf d t x front
+over_all_cuts d t x front over least = record { at_least = subst (λ (n : ℕ). least_front d (mode_of t) x ≤ n) (sym over) least; at_most = omega (arith, over) }
+
 pub chosen : (d : Decomposition) (t : State) (marks : Marks) (quit : Bool) (worker : Role) (front : ℕ) (node : Option ℕ) (separation : Option (ℕ × ℕ))
     → GoesOn t quit → AreFloorsReady d t → AreMarks d t marks → front ≡ length t.cuts
+    → ((n : ℕ) (x : Node) → IsAt t.nodes n x → least_front d (mode_of t) x ≤ length t.cuts)
     → IfSome node (IsFreeNode t.nodes marks.nodes) → IfNone node (NoNodeIsFree t.nodes marks.nodes)
     → IfSome node (IsFirstNode t.nodes marks.nodes)
     → IfSome separation (λ s. IsFreeSeparation (blocks_of d.part) t.posts marks.blocks s.0 s.1)
     → IfNone separation (NoSeparationIsFree (blocks_of d.part) t.posts marks.blocks)
     → IfSome separation (λ s. IsFirstSeparation (blocks_of d.part) t.posts marks.blocks s.0 s.1)
     → Chooses d t marks quit worker (by_role worker front node separation)
-chosen d t marks quit role.Nodes front (Some number) separation on ready m over free none first sfree snone sfirst =
-    (on, record { ready = ready; free = free; first = first; over_all = over; allowed = tt })
-chosen d t marks quit role.Nodes front None (Some s) on ready m over free none first sfree snone sfirst =
+chosen d t marks quit role.Nodes front (Some number) separation on ready m over least free none first sfree snone sfirst =
+    (on, record { ready = ready; free = free; first = first; over_all = over; front_is = over_all_cuts d t free.node front over (least number free.node free.is_node); allowed = tt })
+chosen d t marks quit role.Nodes front None (Some s) on ready m over least free none first sfree snone sfirst =
     (on, record { ready = ready; free = sfree; first = sfirst; allowed = none })
-chosen d t marks quit role.Nodes front None None on ready m over free none first sfree snone sfirst =
+chosen d t marks quit role.Nodes front None None on ready m over least free none first sfree snone sfirst =
     (on, all_handed d t marks m ready none snone)
-chosen d t marks quit role.Cuts front (Some number) (Some s) on ready m over free none first sfree snone sfirst =
+chosen d t marks quit role.Cuts front (Some number) (Some s) on ready m over least free none first sfree snone sfirst =
     (on, record { ready = ready; free = sfree; first = sfirst; allowed = tt })
-chosen d t marks quit role.Cuts front None (Some s) on ready m over free none first sfree snone sfirst =
+chosen d t marks quit role.Cuts front None (Some s) on ready m over least free none first sfree snone sfirst =
     (on, record { ready = ready; free = sfree; first = sfirst; allowed = tt })
-chosen d t marks quit role.Cuts front (Some number) None on ready m over free none first sfree snone sfirst =
-    (on, record { ready = ready; free = free; first = first; over_all = over; allowed = snone })
-chosen d t marks quit role.Cuts front None None on ready m over free none first sfree snone sfirst =
+chosen d t marks quit role.Cuts front (Some number) None on ready m over least free none first sfree snone sfirst =
+    (on, record { ready = ready; free = free; first = first; over_all = over; front_is = over_all_cuts d t free.node front over (least number free.node free.is_node); allowed = snone })
+chosen d t marks quit role.Cuts front None None on ready m over least free none first sfree snone sfirst =
     (on, all_handed d t marks m ready none snone)

@@ -49,15 +49,15 @@ floored d t front floors all over b first last =
     floor_in_front t.cuts front b less first (floors.floors (b - 1) within)
 
 ready_by : (d : Decomposition) (t : State) (front : ℕ) (ray : Option FallingRay) → t.ray ≡ ray → (mode_for ray ≡ mode.Point → 0 < blocks_of d.part) → AreFloorsFirst d t
-    → AreFloorsReady d t → blocks_of d.part ≤ front → IsReady d.part (take front t.cuts) (mode_for ray)
-ready_by d t front None is block floors (inl all) over = floored d t front floors all over
+    → AreFloorsReady d t → (mode_for ray ≡ mode.Cost → blocks_of d.part ≤ front) → IsReady d.part (take front t.cuts) (mode_for ray)
+ready_by d t front None is block floors (inl all) over = floored d t front floors all (over refl)
 ready_by d t front None is block floors (inr some) over =
     let none : IsSome {T = FallingRay} None = subst (λ (r : Option FallingRay). IsSome r) is some in
     absurd (cc)
 ready_by d t front (Some r) is block floors ready over = block refl
 
 pub node_is_ready : (d : Decomposition) (budget : ℕ) (root : Region) (es : List Entry) (t : State) (front : ℕ) → IsReplay d budget root es t
-    → AreFloorsReady d t → blocks_of d.part ≤ front → IsReady d.part (take front t.cuts) (mode_of t)
+    → AreFloorsReady d t → (mode_of t ≡ mode.Cost → blocks_of d.part ≤ front) → IsReady d.part (take front t.cuts) (mode_of t)
 node_is_ready d budget root es t front r ready over =
     ready_by d t front t.ray refl (block_in_point d budget root es t r) (floors_come_first d budget root es t r) ready over
 

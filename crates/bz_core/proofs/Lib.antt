@@ -3,4 +3,6 @@ pub mod Chosen
 pub mod CopiedTasks
 pub mod FloorsGiven
 pub mod Marking
+pub mod NodeFronts
 pub mod StopsGiven
+pub mod TasksThere

@@ -3,6 +3,7 @@ use Rattle.std.specs.Prelude.{ℕ, ◌+◌, ◌≡◌, ◌<◌, ◌≤◌, lengt
 use Rattle.std.specs.List.{AllByRecursion}
 use Rattle.bz_model.specs.Limits.{list_limit}
 use Rattle.bz_model.specs.Parting.{blocks_of}
+use Rattle.bz_cut.specs.declared.Mode.TheVariants as mode
 use Rattle.bz_tree.specs.Ends.{box_of as box_held}
 use Rattle.bz_std.specs.Tasks.{IsBoxOf, IsCutOfSplit}
 use Rattle.bz_event.specs.declared.tasks.NodeTask.{NodeTask}
@@ -24,13 +25,13 @@ pub record IsCopiedNode (t : State) (number front : ℕ) (task : NodeTask) : Typ
   pub cuts_are : task.cuts ≡ take front t.cuts
   pub mode_is : task.mode ≡ mode_of t
 
--- The task meets what its solver asks; of a node in mode Cost, where each block has its floor and the front has a cut for each
--- block.
+-- The task meets what its solver asks, once no floor is missing; in mode Cost where the front has a cut for each block.
 pub record CanBeSolved (v : Seen) (task : NodeTask) : Type 0 where
   pub region : IsBoxOf v.split.model (box_held task.region)
   pub cuts : AllByRecursion (IsCutOfSplit v.split.part) task.cuts
   pub few : length task.cuts + 1024 < list_limit
-  pub ready : AreFloorsReady v.split (now v) → blocks_of v.split.part ≤ task.front → IsReady v.split.part task.cuts task.mode
+  pub ready : AreFloorsReady v.split (now v) → (task.mode ≡ mode.Cost → blocks_of v.split.part ≤ task.front) →
+      IsReady v.split.part task.cuts task.mode
 
 -- the task has the post's point and the mode
 pub record IsCopiedSeparation (t : State) (number block : ℕ) (task : SepTask) : Type 0 where

@@ -9,7 +9,7 @@ use Rattle.bz_history.specs.declared.state.Filled.{Filled}
 use Rattle.bz_history.specs.declared.state.Node.{Node}
 use Rattle.bz_history.specs.declared.state.Post.{Post}
 use Rattle.bz_history.specs.States.{State, changed, is_done, is_live, is_open}
-use Rattle.bz_history.specs.Steps.{AreFloorsReady, IsAt}
+use Rattle.bz_history.specs.Steps.{AreFloorsReady, IsAt, IsFrontOf}
 use Rattle.bz_core.specs.declared.roles.Next.{Next}
 use Rattle.bz_core.specs.declared.roles.Next.TheVariants as next
 use Rattle.bz_core.specs.declared.roles.Role.{Role}
@@ -87,6 +87,7 @@ pub record ChoosesNode (d : Decomposition) (t : State) (marks : Marks) (worker :
   pub free : IsFreeNode t.nodes marks.nodes number
   pub first : IsFirstNode t.nodes marks.nodes number
   pub over_all : front ≡ length t.cuts
+  pub front_is : IsFrontOf d t free.node front
   pub allowed : AllowsNode worker d t marks
 
 -- who solves nodes first makes a separation where none is left
@@ -131,15 +132,6 @@ abbrev pub unmarked : TaskName → Marks → Marks
 unmarked (name.Floor block) marks = record marks { floor = false }
 unmarked (name.Node number front) marks = record marks { nodes = set marks.nodes number false }
 unmarked (name.Sep number block) marks = record marks { blocks = block_marked marks.blocks number block false }
-
--- there is such a mark
-abbrev pub IsInRange : Next → Marks → Type 0
-IsInRange (next.Floor block) marks = Unit {0}
-IsInRange (next.Node number front) marks = number < length marks.nodes
-IsInRange (next.Sep number block) marks =
-    (0 < block) × ((of_post : List Bool) × (slice_get marks.blocks number ≡ Some of_post) × (block ≤ length of_post))
-IsInRange next.Idle marks = Unit {0}
-IsInRange next.Done marks = Unit {0}
 
 -- ---- by the worker's role
 abbrev pub by_role : Role → ℕ → Option ℕ → Option (ℕ × ℕ) → Next

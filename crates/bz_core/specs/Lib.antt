@@ -1,8 +1,10 @@
 pub mod Answering
 pub mod Bests
+pub mod Certified
 pub mod Copies
 pub mod Floors
 pub mod Giving
 pub mod Handing
+pub mod Laws
 pub mod Searches
 pub mod Tasks

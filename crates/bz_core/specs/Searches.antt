@@ -7,6 +7,7 @@ use Rattle.bz_model.specs.Splits.{Decomposition}
 use Rattle.bz_event.specs.declared.events.Entry.{Entry}
 use Rattle.bz_history.specs.declared.state.Post.{Post}
 use Rattle.bz_history.specs.declared.state.Region.{Region}
+use Rattle.bz_history.specs.Budgets.{greatest_budget}
 use Rattle.bz_history.specs.Histories.{IsReplay}
 use Rattle.bz_history.specs.States.{State, is_done, is_live, opening, replay}
 use Rattle.bz_history.specs.Steps.{IsAt}
@@ -26,10 +27,6 @@ pub record Seen : Type 0 where
   pub history : List Entry
   pub marks : Marks
   pub quit : Bool
-
--- the greatest budget of a search
-abbrev pub greatest_budget : ℕ
-greatest_budget = 4000
 
 -- what the search knows now: what its history made of the region that it began with
 abbrev pub now : Seen → State

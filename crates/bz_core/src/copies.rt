@@ -5,22 +5,10 @@ ghost use Rattle.bz_core.specs.Copies.{CanBeSolved, IsCopiedNode, IsCopiedSepara
 ghost use Rattle.bz_core.specs.Searches.{now};
 
 use crate::searches::Search;
-use bz_cut::Cut;
+use bz_certify::copies;
 use bz_event::{NodeTask, SepTask};
-use bz_num::{Items, OutOfMemory};
+use bz_num::OutOfMemory;
 use bz_rules::box_of;
-use std::alloc::Global;
-
-/// The same cuts.
-fn copy_cuts(alloc: Global, cuts: &[Cut]) -> Result<Items<Cut>, OutOfMemory>
-    ensures { IfOk result (λ copy. copy ≡ cuts.now) }
-{
-    let mut copy = Vec::with_capacity(alloc, cuts.len())?;
-    for cut in cuts {
-        copy.push_reserved(cut.copy(alloc)?);
-    }
-    Ok(Items::from_vec(copy))
-}
 
 impl Search<'_> {
     /// The task of a node over the first `front` cuts. It takes memory.
@@ -36,7 +24,7 @@ impl Search<'_> {
             node,
             front,
             region: box_of(alloc, region)?,
-            cuts: copy_cuts(alloc, self.progress.pool().front(front))?,
+            cuts: copies(alloc, self.progress.pool().front(front))?,
             mode: self.progress.mode(),
         })
     }

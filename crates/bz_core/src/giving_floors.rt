@@ -64,7 +64,8 @@ impl Search<'_> {
     }
 
     /// Takes the answer of a floor, where its task is the next floor and its program that of the task: the floor, or the
-    /// direction along which the block's cost falls, is appended.
+    /// direction along which the block's cost falls, is appended. After `Late`, `Unfit` and want of memory the search is
+    /// unchanged. It takes memory.
     pub fn give_floor(
         &mut self,
         stamp: Stamp,

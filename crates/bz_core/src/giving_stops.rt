@@ -37,8 +37,8 @@ impl Search<'_> {
         Ok(1)
     }
 
-    /// Takes the stop of a task, where the search has the task and the program is that of the task: the search ends. It takes
-    /// memory.
+    /// Takes the stop of a task, where the search has the task and the program is that of the task: the search ends. After
+    /// `Late`, `Unfit` and want of memory the search is unchanged. It takes memory.
     pub fn give_stop(&mut self, stamp: Stamp, s: &Solved<WideAt>) -> Result<Taken, OutOfMemory>
         requires stamp { stamp.count ≡ count_of stamp.worker self.old.history }
         requires promise { StopsSomeTask self.old.split.model self.old.split.part s.now }

@@ -1,7 +1,7 @@
 //! Which task is handed out next.
 ghost use Rattle.std.specs.Prelude.{◌↔◌, ◌≡◌, ◌<◌, IsTrue, length, option_map};
 ghost use Rattle.bz_history.specs.Steps.{AreFloorsReady};
-ghost use Rattle.bz_core.specs.Handing.{Chooses, GoesOn, IsInRange, by_role, marked};
+ghost use Rattle.bz_core.specs.Handing.{Chooses, GoesOn, by_role, marked};
 ghost use Rattle.bz_core.specs.Searches.{now};
 
 use crate::choices::{choose_node, choose_separation};
@@ -59,7 +59,6 @@ impl Search<'_> {
 
     /// Marks what is handed out.
     fn mark(&mut self, next: Next)
-        requires { IsInRange next self.old.marks }
         ensures { self.new ≡ record self.old { marks = marked next self.old.marks } }
     {
         match next {
@@ -72,7 +71,7 @@ impl Search<'_> {
 
     /// The next task for a worker of the role, which is marked: a floor before all else; then by the role a node or a
     /// separation, each the first that isn't handed out. `Idle` where each task is, and `Done` where the search is done or
-    /// called off.
+    /// called off. It takes no memory, and changes nothing but the mark.
     pub fn next_task(&mut self, role: Role) -> Next
         ensures chosen { Chooses self.old.split (now self.old) self.old.marks self.old.quit role result }
         ensures mark { self.new ≡ record self.old { marks = marked result self.old.marks } }

@@ -6,12 +6,14 @@
 
 mod answering;
 mod appending;
+mod certificates;
 mod choices;
 mod copies;
 mod giving_floors;
 mod giving_stops;
 mod handing;
 mod handouts;
+mod laws;
 mod outcomes;
 mod reading;
 mod roles;
@@ -19,5 +21,6 @@ mod searches;
 mod stops;
 
 pub use answering::Taken;
+pub use laws::tasks_are_there;
 pub use roles::{Next, Role};
 pub use searches::Search;

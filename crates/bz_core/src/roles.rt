@@ -9,7 +9,7 @@ pub enum Role {
     Cuts,
 }
 
-/// What a worker is told to do.
+/// What a worker is told to do. Blocks are counted from 1, nodes and posted points from 0.
 #[derive(Clone, Copy, Debug, PartialEq, Eq)]
 pub enum Next {
     /// The floor of a block.

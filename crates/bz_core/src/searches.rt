@@ -3,7 +3,8 @@ ghost use Rattle.std.specs.Prelude.{◌≡◌, ◌<◌, ◌≤◌, [], ◌∷◌
 ghost use Rattle.bz_model.specs.Decomposed.{IsDecomposed};
 ghost use Rattle.bz_history.specs.Histories.{IsRootRegion, count_of};
 ghost use Rattle.bz_history.specs.Outcomes.{outcome_of};
-ghost use Rattle.bz_core.specs.Searches.{greatest_budget, now};
+ghost use Rattle.bz_history.specs.Budgets.{greatest_budget};
+ghost use Rattle.bz_core.specs.Searches.{IsSearch, now};
 
 use crate::handouts::Marks;
 use crate::outcomes::outcome_of;
@@ -72,7 +73,8 @@ fn copy_region(alloc: Global, region: &Region) -> Result<Region, OutOfMemory>
 }
 
 impl<'a> Search<'a> {
-    /// A search that begins: with no entry, and the box of the whole model as its only node.
+    /// A search that begins: with no entry, and the box of the whole model as its only node. Its budget is from 1 to 4,000
+    /// units; a unit is a closed node or an appended cut. It takes memory.
     pub fn begin(alloc: Global, split: &'a Split, budget: u32) -> Result<Search<'a>, OutOfMemory>
         requires positive { 0 < budget }
         requires at_most { budget ≤ greatest_budget }
@@ -96,37 +98,39 @@ impl<'a> Search<'a> {
         })
     }
 
-    /// Calls the search off: no further task is handed out.
+    /// Calls the search off: no further task is handed out, and nothing else changes. It takes no memory.
     pub fn quit(&mut self)
         ensures { self.new ≡ record self.old { quit = true } }
     {
         self.quit = true;
     }
 
-    /// What the search has come to.
+    /// What the search has come to. It takes no memory.
     pub fn outcome(&self) -> Outcome
         ensures { result ≡ outcome_of (now self.now) }
     {
         outcome_of(&self.progress)
     }
 
-    /// How many units are spent.
+    /// How many units are spent: the closed nodes and the appended cuts.
     pub fn units(&self) -> u32
         ensures { result ≡ (now self.now).units }
     {
         self.progress.units()
     }
 
-    /// How many units there are.
+    /// After how many units the search stops.
     pub fn budget(&self) -> u32
         ensures { result ≡ self.now.budget }
     {
         self.budget
     }
 
-    /// All entries, in their order.
+    /// All entries, in their order. What a search knows is what they make of the region that it began with, and the laws
+    /// of legal histories hold of it.
     pub fn history(&self) -> &[Entry]
-        ensures { result.now ≡ self.now.history }
+        ensures entries { result.now ≡ self.now.history }
+        ensures kept { IsSearch self.now.split self.now.budget self.now.root self.now.history (now self.now) self.now.marks }
     {
         self.history.as_slice()
     }

@@ -15,7 +15,7 @@ use Rattle.bz_tree.specs.declared.NodeBox.{NodeBox}
 use Rattle.bz_std.specs.Floored.{AreFloored, HasFloor}
 use Rattle.bz_std.specs.Tasks.{IsBoxOf, IsCutOfSplit}
 use Rattle.bz_event.specs.Nodes.{IsReady}
-use Rattle.bz_node.specs.Worked.{AreTestCuts, IsBareModel}
+use Rattle.bz_node.specs.Worked.{AreTestCuts}
 
 -- x in the master and y in block 1
 abbrev worked_part : List ℕ
@@ -65,10 +65,3 @@ ready_here cuts mode.Point h = omega arith
 
 pub ready : (part : List ℕ) (cuts : List Cut) (way : Mode) → part ≡ worked_part → AreTestCuts cuts → IsReady part cuts way
 ready part cuts way e h = subst (λ (p : List ℕ). IsReady p cuts way) (sym e) (ready_here cuts way h)
-
--- ---- the model without rows and columns
-pub bare_box : (m : Model) → IsBareModel m → (region : NodeBox) → region.lower ≡ [] → region.upper ≡ [] → IsBoxOf m (box_of region)
-bare_box m h region lower upper = record { lowers = rw (lower, h.columns) refl; uppers = rw (upper, h.columns) refl }
-
-pub bare_ready : (part : List ℕ) (cuts : List Cut) (way : Mode) → part ≡ [] → way ≡ mode.Cost → IsReady part cuts way
-bare_ready part cuts way e f = rw (e, f) (λ b l u. absurd (omega arith))

@@ -2,7 +2,6 @@
 -- a floor of block 1 with a second cut.
 use Rattle.std.specs.Prelude.{ℕ, ◌≡◌, pos, List, [], ◌∷◌, length}
 use Rattle.bz_algebra.specs.Sums.{AllBelow}
-use Rattle.bz_model.specs.declared.Model.{Model}
 use Rattle.bz_cut.specs.declared.Cut.{Cut}
 use Rattle.bz_event.specs.declared.tasks.NodeTask.{NodeTask}
 
@@ -23,9 +22,3 @@ pub record IsTestTask (task : NodeTask) : Type 0 where
   pub lower : length task.region.lower ≡ 1
   pub upper : length task.region.upper ≡ 1
   pub cuts : AreTestCuts task.cuts
-
--- ---- the model without rows and columns
-pub record IsBareModel (m : Model) : Type 0 where
-  pub columns : m.columns ≡ []
-  pub rows : m.rows ≡ []
-  pub cost : m.cost ≡ []

@@ -1,13 +1,13 @@
 //! Nodes of examples/one.mps: an integer x in the master and a y that is at least 0 in block 1, with the row
 //! `2 x + y >= 1` and the cost `2 x + 3 y`, over the floor `-eta <= 0` and a second cut. Rows of the program, by which
-//! a leaf's multipliers are numbered: the upper end of x, its lower end, the floor, the second cut. And the node of a
-//! model without rows and columns.
+//! a leaf's multipliers are numbered: the upper end of x, its lower end, the floor, the second cut. More
+//! worked answers stand in bz_cases.
 ghost use Rattle.std.specs.Prelude.{◌≡◌, ◌≢◌, ◌+ℤ◌, ◌<ℤ◌, ◌∷◌, [], IfOk, length, pos};
 ghost use Rattle.bz_algebra.specs.Numbers.{IsNarrow};
 ghost use Rattle.bz_model.specs.Worked.{AreWorkedColumns};
 ghost use Rattle.bz_cut.specs.Worked.{AreLinked};
 ghost use Rattle.bz_cut.specs.declared.Mode.TheVariants as mode;
-ghost use Rattle.bz_node.specs.Worked.{AreTestCuts, IsBareModel, IsSecondCut, IsTestTask};
+ghost use Rattle.bz_node.specs.Worked.{AreTestCuts, IsSecondCut, IsTestTask};
 
 use crate::solve_node;
 use bz_cut::{Cut, Mode};
@@ -181,61 +181,6 @@ fn answer(
     }
 }
 
-/// A model without rows and columns.
-fn bare_model(alloc: Global) -> Result<Model, OutOfMemory>
-    ensures { IfOk result IsBareModel }
-{
-    Ok(Model {
-        columns: Items::from_vec(Vec::new(alloc)),
-        rows: Items::from_vec(Vec::new(alloc)),
-        objective: Name::from_vec(Vec::from_slice(alloc, b"COST")?),
-        cost: SparseRow::from_vec(Vec::new(alloc)),
-        constant: 0,
-        scale: 1,
-        maximise: false,
-    })
-}
-
-fn bare_split(alloc: Global) -> Result<Split, OutOfMemory>
-    ensures model { IfOk result (λ split. IsBareModel split.model) }
-    ensures part { IfOk result (λ split. split.part ≡ []) }
-{
-    let model = bare_model(alloc)?;
-    match Split::new(alloc, model, Items::from_vec(Vec::new(alloc))) {
-        Ok(split) => Ok(split),
-        Err(_) => Err(OutOfMemory),
-    }
-}
-
-/// The node without integer columns and cuts.
-fn bare_task(alloc: Global) -> NodeTask
-    ensures lower { result.region.lower ≡ [] }
-    ensures upper { result.region.upper ≡ [] }
-    ensures cuts { result.cuts ≡ [] }
-    ensures mode { result.mode ≡ mode.Cost }
-{
-    NodeTask {
-        node: 0,
-        front: 0,
-        region: NodeBox {
-            lower: Items::from_vec(Vec::new(alloc)),
-            upper: Items::from_vec(Vec::new(alloc)),
-        },
-        cuts: Items::from_vec(Vec::new(alloc)),
-        mode: Mode::Cost,
-    }
-}
-
-/// What that node comes to.
-fn bare_answer(alloc: Global) -> Result<NodeAnswer, OutOfMemory> {
-    let split = bare_split(alloc)?;
-    let task = bare_task(alloc);
-    match solve_node(alloc, &split, &task) {
-        Ok(solved) => Ok(solved.answer),
-        Err(_) => Err(OutOfMemory),
-    }
-}
-
 /// The position and the number of a split.
 fn split_at(answer: &NodeAnswer) -> Option<(u32, i128)> {
     match answer {
@@ -292,41 +237,5 @@ fn a_whole_point_comes_with_the_leaf_of_its_cost(rt: HostRuntime) -> Result<(), 
         assert_eq!(rt; point(&answer), Some((1, [x].as_slice(), [eta].as_slice())));
         assert_eq!(rt; leaf(&answer), Some((multipliers.as_slice(), 1, cost)));
     }
-    Ok(())
-}
-
-/// `x <= 0` and `-x <= -1` together are `0 <= -1`.
-#[test]
-fn crossed_ends_have_no_point(rt: HostRuntime) -> Result<(), Fail> {
-    for mode in [Mode::Cost, Mode::Point] {
-        let answer = answer(rt.alloc(), 1, 0, (-6, 1, -3), mode)?;
-        assert!(rt; matches!(answer, NodeAnswer::Empty { .. }));
-        assert_eq!(rt; leaf(&answer), Some(([(0, 1), (1, 1)].as_slice(), 0, 1)));
-    }
-    Ok(())
-}
-
-/// Over `-2 x <= 3` the least of `2 x + eta` is -3, at x = -3/2.
-#[test]
-fn a_negative_number_is_rounded_down(rt: HostRuntime) -> Result<(), Fail> {
-    let answer = answer(rt.alloc(), -5, 5, (-2, 0, 3), Mode::Cost)?;
-    assert_eq!(rt; split_at(&answer), Some((0, -2)));
-    assert_eq!(rt; leaf(&answer), Some(([(2, 1), (3, 1)].as_slice(), 1, -3)));
-    Ok(())
-}
-
-#[test]
-fn a_point_without_a_cost_has_no_leaf(rt: HostRuntime) -> Result<(), Fail> {
-    let answer = answer(rt.alloc(), 0, 1, (-6, 1, 0), Mode::Point)?;
-    assert_eq!(rt; point(&answer), Some((1, [0].as_slice(), [0].as_slice())));
-    assert_eq!(rt; leaf(&answer), None);
-    Ok(())
-}
-
-#[test]
-fn a_model_without_columns_has_one_point(rt: HostRuntime) -> Result<(), Fail> {
-    let answer = bare_answer(rt.alloc())?;
-    assert_eq!(rt; point(&answer), Some((1, [].as_slice(), [].as_slice())));
-    assert_eq!(rt; leaf(&answer), Some(([].as_slice(), 1, 0)));
     Ok(())
 }

@@ -22,7 +22,8 @@ use bz_num::{Items, OutOfMemory};
 use bz_tree::Leaf;
 
 impl Progress {
-    /// Makes room for what one answer may add: a cut, a floor's place, two nodes and a post.
+    /// Makes room for what one answer may add: a cut, a floor's place, two nodes and a post. There is no room either where
+    /// nodes, posts or cuts can't be numbered any more. The state stays as it is.
     pub fn reserve(&mut self) -> Result<(), OutOfMemory>
         ensures state { self.new.state ≡ self.old.state }
         ensures cuts { OnOk result (1 ≤ self.new.room.cuts) }

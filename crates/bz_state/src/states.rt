@@ -93,7 +93,7 @@ fn greater(a: u32, b: u32) -> u32
 }
 
 impl Progress {
-    /// The state in which a search begins in the region: its only node.
+    /// The state in which a search begins in the region: its only node. It takes memory.
     pub fn opening(alloc: Global, root: Region) -> Result<Progress, OutOfMemory>
         ensures { IfOk result (λ progress. progress.state ≡ opening root) }
     {

@@ -9,6 +9,7 @@ use Rattle.bz_core.specs.declared.roles.Next.{Next}
 use Rattle.bz_core.specs.Handing.{Chooses, GoesOn, IsFirstNode, IsFirstSeparation, IsFreeNode, IsFreeSeparation, NoNodeIsFree, NoSeparationIsFree}
 use Rattle.bz_core.specs.Searches.{Marks, Seen, now}
 use Rattle.bz_core.proofs.Chosen.{chosen}
+use Rattle.bz_core.proofs.NodeFronts.{least_front_there}
 use Rattle.bz_core.proofs.searches.Search.choose_further.Goals as goal
 
 pub returns : goal.returns
@@ -35,4 +36,5 @@ returns c =
     (subst (λ (u : State). Chooses d u marks c.self.inside.quit c.args.role c.by_role.result) (sym c.self.invariant.replayed.state)
     (subst (λ (r : Next). Chooses d t marks c.self.inside.quit c.args.role r) (sym c.by_role.ensures)
     (chosen d t marks c.self.inside.quit c.args.role c.len.result c.choose_node-node.result c.choose_separation-separation.result
-    on ready c.self.invariant.marks_are over free none first sfree snone sfirst)))
+    on ready c.self.invariant.marks_are over
+    (λ n x at. least_front_there d c.self.inside.budget c.self.inside.root c.self.inside.history.items t n x c.self.invariant.replayed ready at) free none first sfree snone sfirst)))

@@ -1,4 +1,4 @@
-use Rattle.std.proofs.Common.{◌≡◌, ◌+◌, ◌<◌, ◌≤◌, List, length, refl, rules, subst, sym, take}
+use Rattle.std.proofs.Common.{◌∙◌, ◌≡◌, ◌+◌, ◌<◌, ◌≤◌, List, length, refl, rules, subst, sym, take}
 use Rattle.std.specs.List.{AllByRecursion}
 use Rattle.std.proofs.lemmas.Option.{slice_get_read}
 use Rattle.bz_algebra.specs.Numbers.{IsNarrow}
@@ -57,8 +57,8 @@ returns-clause-copied c =
     let region : IsRegionOf d x.region = (states_fit d c.self.inside.budget c.self.inside.root c.self.inside.history.items t c.self.invariant.replayed).regions c.args.node x at in
     let held : box_held c.in_ok-box_of.field-0 ≡ box_of x.region =
     subst (λ (y : Node). box_held c.in_ok-box_of.field-0 ≡ box_of y.region) (sym c.index-nodes-node.is) c.in_ok-box_of.ensures in
-    let cuts : c.in_ok-copy_cuts.field-0 ≡ take c.args.front t.cuts = search rules in
-    let task : NodeTask = record { node = c.args.node; front = c.args.front; region = c.in_ok-box_of.field-0; cuts = c.in_ok-copy_cuts.field-0; mode = c.mode.result } in
+    let cuts : c.in_ok-copies.field-0 ≡ take c.args.front t.cuts = search rules in
+    let task : NodeTask = record { node = c.args.node; front = c.args.front; region = c.in_ok-box_of.field-0; cuts = c.in_ok-copies.field-0; mode = c.mode.result } in
     subst (λ (u : State). IsCopiedNode u c.args.node c.args.front task) (sym is) (record {
       number_is = refl;
       front_is = refl;
@@ -82,9 +82,9 @@ returns-clause-solvable c =
     let es = c.self.inside.history.items in
     let held : box_held c.in_ok-box_of.field-0 ≡ box_of x.region =
     subst (λ (y : Node). box_held c.in_ok-box_of.field-0 ≡ box_of y.region) (sym c.index-nodes-node.is) c.in_ok-box_of.ensures in
-    let cuts : c.in_ok-copy_cuts.field-0 ≡ take c.args.front t.cuts = search rules in
+    let cuts : c.in_ok-copies.field-0 ≡ take c.args.front t.cuts = search rules in
     let front : c.args.front ≤ length t.cuts = search rules in
-    let task : NodeTask = record { node = c.args.node; front = c.args.front; region = c.in_ok-box_of.field-0; cuts = c.in_ok-copy_cuts.field-0; mode = c.mode.result } in
+    let task : NodeTask = record { node = c.args.node; front = c.args.front; region = c.in_ok-box_of.field-0; cuts = c.in_ok-copies.field-0; mode = c.mode.result } in
     subst (λ (v : Seen). CanBeSolved v task) c.self.view_is (record {
       region = subst (λ (b : Box). IsBoxOf d.model b) (sym held) region.ends;
       cuts = subst (λ (cs : List Cut). AllByRecursion (IsCutOfSplit d.part) cs) (sym cuts) (cuts_of_split d c.self.inside.budget c.self.inside.root es t c.args.front c.self.invariant.replayed);
@@ -92,5 +92,5 @@ returns-clause-solvable c =
       ready = λ ready over. subst (λ (cs : List Cut). IsReady d.part cs c.mode.result) (sym cuts)
           (subst (λ (way : Mode). IsReady d.part (take c.args.front t.cuts) way) (sym c.mode.ensures)
           (node_is_ready d c.self.inside.budget c.self.inside.root es t c.args.front c.self.invariant.replayed
-          (subst (AreFloorsReady d) c.self.invariant.replayed.state ready) over));
+          (subst (AreFloorsReady d) c.self.invariant.replayed.state ready) (λ way. over (c.mode.ensures ∙ way))));
     })
