@@ -1,6 +1,7 @@
 pub mod BestPosts
 pub mod Completing
 pub mod Decided
+pub mod FewEntries
 pub mod FittingStates
 pub mod FloorsFollow
 pub mod GoingOn

@@ -1,5 +1,5 @@
 -- What is proved of rules and entries: what is appended is legal.
-use Rattle.std.specs.Prelude.{ℕ, List, ◌++◌, Option}
+use Rattle.std.specs.Prelude.{ℕ, ◌≤◌, List, ◌++◌, length, Option}
 use Rattle.bz_first.specs.Tests.{AllHold}
 use Rattle.bz_model.specs.Splits.{Decomposition}
 use Rattle.bz_tableau.specs.declared.answers.WideAt.{WideAt}
@@ -54,3 +54,11 @@ StopsFollow =
     (d : Decomposition) (budget : ℕ) (root : Region) (es : List Entry) (t : State) (s : Solved WideAt) →
     IsUnderWay d budget root es t → StopsSomeTask d.model d.part s → AllHold (stop_answer_rules d t s) →
     FollowInTurn d budget t (stop_entries d budget t s)
+
+-- An answer appends at most four entries.
+pub record EntriesAreFew : Type 0 where
+  pub floors : (d : Decomposition) (budget : ℕ) (t : State) (s : Solved FloorAnswer) → length (floor_entries d budget t s) ≤ 4
+  pub stops : (d : Decomposition) (budget : ℕ) (t : State) (s : Solved WideAt) → length (stop_entries d budget t s) ≤ 4
+  pub nodes : (d : Decomposition) (budget : ℕ) (t : State) (s : Solved NodeAnswer) → length (node_entries d budget t s) ≤ 4
+  pub separations : (d : Decomposition) (budget : ℕ) (t : State) (known : Option ℕ) (s : Solved SepAnswer) →
+      length (separation_entries d budget t known s) ≤ 4

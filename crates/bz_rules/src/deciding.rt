@@ -63,7 +63,7 @@ fn bounds(split: &Split, leaf: &Leaf, best: &Post) -> bool
     !is_above(value, best.point.den, leaf.bound, leaf.delta)
 }
 
-/// Whether the leaf's bound over its delta is at least the value of the best post so far.
+/// Whether the leaf's bound over its delta is at least the value of the best post so far: not where there is none.
 pub fn reaches_best(split: &Split, progress: &Progress, leaf: &Leaf) -> bool
     requires fits { FitsSplit split.now progress.now.state }
     requires cost { mode_of progress.now.state ≡ mode.Cost }

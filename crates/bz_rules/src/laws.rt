@@ -1,5 +1,5 @@
 //! What is proved of rules and entries.
-ghost use Rattle.bz_rules.specs.Laws.{FloorsFollow, HistoriesGoOn, NodesFollow, SeparationsFollow, StopsFollow};
+ghost use Rattle.bz_rules.specs.Laws.{EntriesAreFew, FloorsFollow, HistoriesGoOn, NodesFollow, SeparationsFollow, StopsFollow};
 ghost use Rattle.bz_rules.specs.Shapes.{StatesFit};
 
 /// The cuts, the nodes' regions and the posted points of every legal history fit the split.
@@ -30,4 +30,9 @@ pub fn nodes_follow()
 /// Where the rules of a separation's answer hold, each of its events may follow.
 pub fn separations_follow()
     ensures { SeparationsFollow }
+{}
+
+/// An answer appends at most four entries.
+pub fn entries_are_few()
+    ensures { EntriesAreFew }
 {}

@@ -16,7 +16,8 @@ pub use answers::{judge_separation, judge_stop};
 pub use deciding::{is_better, is_last_block, is_spent, known_cut, reaches_best};
 pub use floors::judge_floor;
 pub use laws::{
-    floors_follow, histories_go_on, nodes_follow, separations_follow, states_fit, stops_follow,
+    entries_are_few, floors_follow, histories_go_on, nodes_follow, separations_follow, states_fit,
+    stops_follow,
 };
 pub use nodes::{box_of, judge_node};
 pub use refused::Refused;
