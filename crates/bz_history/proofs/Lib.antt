@@ -1,5 +1,6 @@
 pub mod AppendedSteps
 pub mod BestSteps
+pub mod BestValues
 pub mod BudgetSteps
 pub mod CertificateShapes
 pub mod CertificateTrees

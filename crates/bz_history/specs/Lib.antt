@@ -1,3 +1,4 @@
+pub mod BestPosts
 pub mod Budgets
 pub mod Certificates
 pub mod Covers

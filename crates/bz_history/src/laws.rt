@@ -1,4 +1,5 @@
 //! What is true of every legal history.
+ghost use Rattle.bz_history.specs.BestPosts.{BestPostsAreRight};
 ghost use Rattle.bz_history.specs.Budgets.{EnoughIsEnough};
 ghost use Rattle.bz_history.specs.Certificates.{CertificatesAreRight, CertificatesHaveTheirShape};
 ghost use Rattle.bz_history.specs.Covers.{NothingBetterIsLost};
@@ -33,7 +34,7 @@ pub fn floors_come_first()
     ensures { FloorsComeFirst }
 {}
 
-/// Each cut after the floors is that of a basis of its block's separation, and all are of the mode of now.
+/// Each cut after the floors is that of a basis of its block's separation, and all are of the present mode.
 pub fn appended_cuts_are_of_bases()
     ensures { AppendedCutsAreOfBases }
 {}
@@ -96,6 +97,12 @@ pub fn places_are_right()
 /// the box of an open node.
 pub fn nothing_better_is_lost()
     ensures { NothingBetterIsLost }
+{}
+
+/// The best post, whether a node is open or not, is completed in each block and has its shape; each point of its parts is
+/// feasible, and in mode Cost their value is its objective.
+pub fn best_posts_are_right()
+    ensures { BestPostsAreRight }
 {}
 
 /// Where no node is open, a search without a best post shows that no point is feasible, and in mode Cost each point of the
