@@ -4,6 +4,7 @@ pub mod BestValues
 pub mod BudgetSteps
 pub mod CertificateShapes
 pub mod CertificateTrees
+pub mod CountSteps
 pub mod CoverSteps
 pub mod FinishedSearches
 pub mod FloorSteps

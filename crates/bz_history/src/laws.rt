@@ -13,6 +13,7 @@ ghost use Rattle.bz_history.specs.Measures.{NodesAreFew};
 ghost use Rattle.bz_history.specs.Outcomes.{OutcomesAreTrue};
 ghost use Rattle.bz_history.specs.Places.{PlacesAreRight};
 ghost use Rattle.bz_history.specs.Pools.{AppendedCutsAreOfBases, PoolsAreRight};
+ghost use Rattle.bz_history.specs.PostCounts.{PostsAreFew, PostsHaveNumbers};
 ghost use Rattle.bz_history.specs.Posts.{PostsAreRight};
 ghost use Rattle.bz_history.specs.Sizes.{SizesAreRight};
 ghost use Rattle.bz_history.specs.Trees.{ParentsAreOne, TreesAreWhole};
@@ -70,6 +71,17 @@ pub fn lives_are_right()
 /// The fronts of a node's posts rise, and a live post is the last of its node.
 pub fn fronts_rise()
     ensures { FrontsRise }
+{}
+
+/// A node tells how many posts are its own: at most one more than the cuts, and at most all posts. So all are at most so many
+/// for each node.
+pub fn posts_are_few()
+    ensures { PostsAreFew }
+{}
+
+/// With a budget within the limit the posts are fewer than the greatest number of 32 bits.
+pub fn posts_have_numbers()
+    ensures { PostsHaveNumbers }
 {}
 
 /// The nodes that are there, with those that may still come, are at most twice the whole points of the root's box, less one.
