@@ -7,6 +7,7 @@ pub mod CertificateTrees
 pub mod CountSteps
 pub mod CoverSteps
 pub mod FinishedSearches
+pub mod FirstEnds
 pub mod FloorSteps
 pub mod FrontSteps
 pub mod Growing

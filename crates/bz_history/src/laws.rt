@@ -100,7 +100,8 @@ pub fn enough_is_enough()
     ensures { EnoughIsEnough }
 {}
 
-/// Each place in the history that the state keeps is that of the entry which it speaks of.
+/// Each place in the history that the state keeps is that of the entry which it speaks of. What ended a post is the first entry
+/// that ends it, and none ends a live one.
 pub fn places_are_right()
     ensures { PlacesAreRight }
 {}
