@@ -53,7 +53,7 @@ pub record IsFinished (d : Decomposition) (cuts : List Cut) (nodes : List Node) 
   pub ray_is : state.ray ≡ ray
   pub verdict : HasVerdict (outcome_of state)
 
--- without a best point there is none, and with one it is optimal, or in mode Point shows that there is no optimum
+-- where there is no best point, no point is feasible; a best one is optimal, or in mode Point shows that there is no optimum
 abbrev pub verdict_of : Option ℕ → Option FallingRay → Verdict
 verdict_of None ray = verdict.Infeasible
 verdict_of (Some number) None = verdict.Optimal

@@ -182,7 +182,7 @@ unbeaten_kept d t u p q way best posts h cost b is =
     (h (way ∙ cost) k.0 (is.0, best ∙ is.1, k.1))
 
 -- ---- a leaf
-all_front : {X : Type 0} (P : X → Type 0) (n : ℕ) (xs : List X) → AllByRecursion P xs → AllByRecursion P (take n xs)
+pub all_front : {X : Type 0} (P : X → Type 0) (n : ℕ) (xs : List X) → AllByRecursion P xs → AllByRecursion P (take n xs)
 all_front P zero xs h = tt
 all_front P (suc n) [] h = tt
 all_front P (suc n) (x ∷ xs) h = (h.0, all_front P n xs h.1)

@@ -114,7 +114,7 @@ post_feasible d root way t post tree is_root h filled = record {
     one_more : (b : ℕ) → suc b ≡ 1 + b
     one_more b = omega arith
 
-post_worth : (d : Decomposition) (t : State) (post : Post) → IsPostOf d mode.Cost t.nodes t.cuts post → IsFilled post → AreWorth d.model d.part (parts_of post) (value_of d.model d.part post.point)
+pub post_worth : (d : Decomposition) (t : State) (post : Post) → IsPostOf d mode.Cost t.nodes t.cuts post → IsFilled post → AreWorth d.model d.part (parts_of post) (value_of d.model d.part post.point)
 post_worth d t post h filled = record {
   shape = record { point = post_shape d mode.Cost t.nodes post t.cuts h filled; eta = h.posted.shape.eta };
   costs = completed (λ e. dot (terms_in d.part e.0 (inner_cost d.model)) (coordinate e.1.y) ≤ℤ (eta_of post.point e.0 *ℤ e.1.times)) 1 post.fills filled

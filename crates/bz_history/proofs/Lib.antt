@@ -1,10 +1,13 @@
 pub mod AppendedSteps
 pub mod BestSteps
+pub mod BestValues
 pub mod BudgetSteps
 pub mod CertificateShapes
 pub mod CertificateTrees
+pub mod CountSteps
 pub mod CoverSteps
 pub mod FinishedSearches
+pub mod FirstEnds
 pub mod FloorSteps
 pub mod FrontSteps
 pub mod Growing

@@ -17,6 +17,7 @@ use Rattle.bz_history.specs.declared.state.Post.{Post}
 use Rattle.bz_history.specs.declared.state.Region.{Region}
 use Rattle.bz_history.specs.declared.state.Stopped.{Stopped}
 use Rattle.bz_history.specs.declared.state.Stopped.TheVariants as stopped
+use Rattle.bz_history.specs.BestPosts.{IsFeasiblePost}
 use Rattle.bz_history.specs.Budgets.{enough}
 use Rattle.bz_history.specs.Finished.{FinishedIsTrue}
 use Rattle.bz_history.specs.Histories.{IsReplay}
@@ -24,6 +25,7 @@ use Rattle.bz_history.specs.Outcomes.{EndsWide, HasOptimum, HasVerdict, IsSpent,
 use Rattle.bz_history.specs.States.{State, effect, is_open, mode_for, mode_of}
 use Rattle.bz_history.specs.Steps.{IsAt, IsFilled, MayFollow}
 use Rattle.bz_history.proofs.BestSteps.{best_is_filled}
+use Rattle.bz_history.proofs.BestValues.{best_posts_are_right}
 use Rattle.bz_history.proofs.BudgetSteps.{enough_is_enough}
 use Rattle.bz_history.proofs.FinishedSearches.{finished_searches_are_true}
 use Rattle.bz_history.proofs.Growing.{histories_grow}
@@ -175,13 +177,13 @@ outcomes_are_true d budget root es t dec r = record {
     optimal : outcome_of t ≡ outcome.Optimal → HasOptimum d t
     optimal h =
         let is : (i : ℕ) × (t.best ≡ Some i) × (mode_of t ≡ mode.Cost) × (list_any is_open t.nodes ≡ false) = optimal_is t.stop (mode_of t) t.best (list_any is_open t.nodes) h in
-        let b : (post : Post) × IsAt t.posts is.0 post × IsFilled post = best_is_filled d budget root es t r is.0 is.1 in
+        let b : (post : Post) × IsAt t.posts is.0 post × IsFeasiblePost d (mode_of t) post = best_posts_are_right d budget root es t dec r is.0 is.1 in
         let true_end : FinishedIsTrue d t = finished_searches_are_true d budget root es t dec r is.3 in
         record {
           post = b.0;
           is_best = (is.0, is.1, b.1);
-          shape = true_end.shape b.0 (is.0, is.1, b.1);
-          optimal = true_end.optimal is.2 b.0 (is.0, is.1, b.1);
+          feasible = subst (λ (w : Mode). IsFeasiblePost d w b.0) is.2 b.2;
+          optimal = λ p q point. (true_end.optimal is.2 b.0 (is.0, is.1, b.1) p q point).0;
         }
 
     infeasible : outcome_of t ≡ outcome.Infeasible → IsInfeasible d.model

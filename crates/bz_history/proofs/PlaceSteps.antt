@@ -21,7 +21,8 @@ use Rattle.bz_history.specs.Lives.{AreLives, IsLivePostOf}
 use Rattle.bz_history.specs.Places.{ArePlaces, Ends, HasEvent, IsFloorOf, PlacesAreRight}
 use Rattle.bz_history.specs.States.{State, changed, changed_at, closed_by, effect, end_of, ended_by, filled_by, live_of, opening, posted_by, posted_point, side, sides_opened}
 use Rattle.bz_history.specs.Steps.{IsAt, MayFollow}
-use Rattle.bz_history.proofs.Growing.{histories_grow}
+use Rattle.bz_history.proofs.FirstEnds.{AreFirstEnds, first_ends}
+use Rattle.bz_history.proofs.Growing.{histories_grow, step_more}
 use Rattle.bz_history.proofs.LeafSteps.{fresh_open}
 use Rattle.bz_history.proofs.Lists.{at_changed, at_either, at_end, at_kept, at_more, at_one}
 use Rattle.bz_history.proofs.LiveSteps.{closing_node, lives_are_right, none_some}
@@ -202,8 +203,8 @@ closings_closed d es x t number w place is_close h n z c is closed = by (at_eith
         absurd (cc)
 
 -- ---- all together
-placed_with : (es : List Entry) (x : Entry) (t u : State) → u.entries ≡ suc t.entries → u.floors ≡ t.floors → u.ray ≡ t.ray → ArePostPlaces (es ++ x ∷ []) u.posts → AreClosings (es ++ x ∷ []) u.nodes → ArePlaces es t → ArePlaces (es ++ x ∷ []) u
-placed_with es x t u entries floors ray posts closings h =
+placed_with : (es : List Entry) (x : Entry) (t u : State) → u.entries ≡ suc t.entries → u.floors ≡ t.floors → u.ray ≡ t.ray → ArePostPlaces (es ++ x ∷ []) u.posts → AreClosings (es ++ x ∷ []) u.nodes → AreFirstEnds (es ++ x ∷ []) u.nodes u.posts → ArePlaces es t → ArePlaces (es ++ x ∷ []) u
+placed_with es x t u entries floors ray posts closings f h =
     let more : length (es ++ x ∷ []) ≡ length es + 1 = length-append es (x ∷ []) in
     let old : t.entries ≡ length es = h.entries in
     record {
@@ -212,6 +213,8 @@ placed_with es x t u entries floors ray posts closings h =
       ray = λ r is. event_kept es (x ∷ []) r.at _ (h.ray r (sym ray ∙ is));
       posts = posts.posted;
       ended = posts.ended;
+      first = λ i at p is e k below ends. f.first i at k p ends.entry is e below ends.is_entry ends.is_event;
+      unended = λ i p is live k ends. f.live i k p ends.entry is live ends.is_entry ends.is_event;
       fills = posts.fills;
       closings = closings;
     }
@@ -221,8 +224,8 @@ close_names d t number p w node is live lives y at_y =
     let q : IsLivePostOf t.posts p number = lives.of_node number p node is live in
     sym (ap (λ (v : Post). v.node) (at_one t.posts p y q.post at_y q.is_post) ∙ q.of_node)
 
-place_step : (d : Decomposition) (budget : ℕ) (es : List Entry) (t : State) (x : Entry) (e : Event) → x.event ≡ e → MayFollow d budget t e → AreLives t.nodes t.posts → ArePlaces es t → ArePlaces (es ++ x ∷ []) (effect d t e)
-place_step d budget es t x (event.Floor block basis cut) is may lives h =
+place_step : (d : Decomposition) (budget : ℕ) (es : List Entry) (t : State) (x : Entry) (e : Event) → x.event ≡ e → MayFollow d budget t e → AreLives t.nodes t.posts → AreFirstEnds (es ++ x ∷ []) (effect d t e).nodes (effect d t e).posts → ArePlaces es t → ArePlaces (es ++ x ∷ []) (effect d t e)
+place_step d budget es t x (event.Floor block basis cut) is may lives f h =
     let more : length (es ++ x ∷ []) ≡ length es + 1 = length-append es (x ∷ []) in
     let old : t.entries ≡ length es = h.entries in
     let posts : ArePostPlaces (es ++ x ∷ []) t.posts = posts_kept es x t.posts (post_places es t h) in
@@ -232,6 +235,8 @@ place_step d budget es t x (event.Floor block basis cut) is may lives h =
       ray = λ r is_r. event_kept es (x ∷ []) r.at _ (h.ray r is_r);
       posts = posts.posted;
       ended = posts.ended;
+      first = λ i at p is e k below ends. f.first i at k p ends.entry is e below ends.is_entry ends.is_event;
+      unended = λ i p is live k ends. f.live i k p ends.entry is live ends.is_entry ends.is_event;
       fills = posts.fills;
       closings = closings_steady es x t.nodes t.nodes (steady_same t.nodes) h.closings;
     }
@@ -240,7 +245,7 @@ place_step d budget es t x (event.Floor block basis cut) is may lives h =
     floor k at (inl g) = event_kept es (x ∷ []) at _ (h.floors k at g)
     floor k at (inr g) = subst (λ (n : ℕ). HasEvent (es ++ x ∷ []) n (IsFloorOf (suc k))) g.0
         (event_new es x t.entries (IsFloorOf (suc k)) h.entries (subst (IsFloorOf (suc k)) (sym is) (may.next.next ∙ ap suc (sym g.1))))
-place_step d budget es t x (event.Ray block direction) is may lives h =
+place_step d budget es t x (event.Ray block direction) is may lives f h =
     let more : length (es ++ x ∷ []) ≡ length es + 1 = length-append es (x ∷ []) in
     let old : t.entries ≡ length es = h.entries in
     let posts : ArePostPlaces (es ++ x ∷ []) t.posts = posts_kept es x t.posts (post_places es t h) in
@@ -250,6 +255,8 @@ place_step d budget es t x (event.Ray block direction) is may lives h =
       ray = ray;
       posts = posts.posted;
       ended = posts.ended;
+      first = λ i at p is e k below ends. f.first i at k p ends.entry is e below ends.is_entry ends.is_event;
+      unended = λ i p is live k ends. f.live i k p ends.entry is live ends.is_entry ends.is_event;
       fills = posts.fills;
       closings = closings_steady es x t.nodes t.nodes (steady_same t.nodes) h.closings;
     }
@@ -258,21 +265,21 @@ place_step d budget es t x (event.Ray block direction) is may lives h =
     ray r is_r =
         let own : record { block = block; d = direction; at = t.entries } ≡ r = cc in
         subst (λ (v : FallingRay). HasEvent (es ++ x ∷ []) v.at (λ e. e ≡ event.Ray v.block v.d)) own (event_new es x t.entries _ h.entries is)
-place_step d budget es t x (event.Post node front point leaf) is may lives h = placed_with es x t (effect d t (event.Post node front point leaf)) refl refl refl
+place_step d budget es t x (event.Post node front point leaf) is may lives f h = placed_with es x t (effect d t (event.Post node front point leaf)) refl refl refl
     (posts_posted d es x t.entries node front point leaf t.posts h.entries is (post_places es t h))
-    (closings_steady es x t.nodes (changed (posted_by (length t.posts)) t.nodes node) (steady_changed (posted_by (length t.posts)) t.nodes node (λ y. refl) (λ y. refl)) h.closings) h
-place_step d budget es t x (event.Append post basis cut) is may lives h = placed_with es x t (effect d t (event.Append post basis cut)) refl refl refl
+    (closings_steady es x t.nodes (changed (posted_by (length t.posts)) t.nodes node) (steady_changed (posted_by (length t.posts)) t.nodes node (λ y. refl) (λ y. refl)) h.closings) f h
+place_step d budget es t x (event.Append post basis cut) is may lives f h = placed_with es x t (effect d t (event.Append post basis cut)) refl refl refl
     (posts_ended es x t.entries post t.posts h.entries (λ y at_y. subst (Ends post y.node) (sym is) refl) (post_places es t h))
-    (closings_steady es x t.nodes _ (steady_freed (slice_get t.posts post) (length t.cuts) t.nodes) h.closings) h
-place_step d budget es t x (event.Again post basis place) is may lives h = placed_with es x t (effect d t (event.Again post basis place)) refl refl refl
+    (closings_steady es x t.nodes _ (steady_freed (slice_get t.posts post) (length t.cuts) t.nodes) h.closings) f h
+place_step d budget es t x (event.Again post basis place) is may lives f h = placed_with es x t (effect d t (event.Again post basis place)) refl refl refl
     (posts_ended es x t.entries post t.posts h.entries (λ y at_y. subst (Ends post y.node) (sym is) refl) (post_places es t h))
-    (closings_steady es x t.nodes _ (steady_freed (slice_get t.posts post) place t.nodes) h.closings) h
-place_step d budget es t x (event.Fill post block y) is may lives h = placed_with es x t (effect d t (event.Fill post block y)) refl refl refl
+    (closings_steady es x t.nodes _ (steady_freed (slice_get t.posts post) place t.nodes) h.closings) f h
+place_step d budget es t x (event.Fill post block y) is may lives f h = placed_with es x t (effect d t (event.Fill post block y)) refl refl refl
     (posts_filled es x t.entries post block y t.posts h.entries may.first is (post_places es t h))
-    (closings_steady es x t.nodes t.nodes (steady_same t.nodes) h.closings) h
-place_step d budget es t x (event.Incumbent post) is may lives h = placed_with es x t (effect d t (event.Incumbent post)) refl refl refl (posts_kept es x t.posts (post_places es t h)) (closings_steady es x t.nodes t.nodes (steady_same t.nodes) h.closings) h
-place_step d budget es t x (event.Close number w) is may lives h = placed_with es x t (effect d t (event.Close number w)) refl refl refl posts
-    (closings_closed d es x t number w h.entries is h.closings) h
+    (closings_steady es x t.nodes t.nodes (steady_same t.nodes) h.closings) f h
+place_step d budget es t x (event.Incumbent post) is may lives f h = placed_with es x t (effect d t (event.Incumbent post)) refl refl refl (posts_kept es x t.posts (post_places es t h)) (closings_steady es x t.nodes t.nodes (steady_same t.nodes) h.closings) f h
+place_step d budget es t x (event.Close number w) is may lives f h = placed_with es x t (effect d t (event.Close number w)) refl refl refl posts
+    (closings_closed d es x t number w h.entries is h.closings) f h
   where
     node : (n : Node) × IsAt t.nodes number n
     node = closing_node d t number w may.closing
@@ -284,11 +291,12 @@ place_step d budget es t x (event.Close number w) is may lives h = placed_with e
 
     posts : ArePostPlaces (es ++ x ∷ []) (changed_at (ended_by t.entries) t.posts (live_of (slice_get t.nodes number)))
     posts = subst (λ (o : Option Node). ArePostPlaces (es ++ x ∷ []) (changed_at (ended_by t.entries) t.posts (live_of o))) (sym node.1) (by node.0.live refl)
-place_step d budget es t x (event.Stop reason) is may lives h = placed_with es x t (effect d t (event.Stop reason)) refl refl refl (posts_kept es x t.posts (post_places es t h)) (closings_steady es x t.nodes t.nodes (steady_same t.nodes) h.closings) h
+place_step d budget es t x (event.Stop reason) is may lives f h = placed_with es x t (effect d t (event.Stop reason)) refl refl refl (posts_kept es x t.posts (post_places es t h)) (closings_steady es x t.nodes t.nodes (steady_same t.nodes) h.closings) f h
 
 pub places_are_right : PlacesAreRight
 places_are_right d budget root es t r = histories_grow d budget root ArePlaces begins
-    (λ before u x replayed step old. place_step d budget before u x x.event refl step.may (lives_are_right d budget root before u replayed) old) es t r
+    (λ before u x replayed step old. place_step d budget before u x x.event refl step.may (lives_are_right d budget root before u replayed)
+    (first_ends d budget root (before ++ x ∷ []) (effect d u x.event) (step_more d budget root before u x replayed step)) old) es t r
   where
     nothing_closed : (n : ℕ) (y : Node) (c : Closing) → slice_get (side 0 root ∷ []) n ≡ Some y → y.closing ≡ Some c → ⊥
     nothing_closed zero y c is closed =
@@ -304,6 +312,8 @@ places_are_right d budget root es t r = histories_grow d budget root ArePlaces b
       ray = λ r is. absurd (cc);
       posts = λ i p is. absurd (cc);
       ended = λ i at p is e. absurd (cc);
+      first = λ i at p is e k below ends. absurd (cc);
+      unended = λ i p is live k ends. absurd (cc);
       fills = λ i b p f is e. absurd (cc);
       closings = λ n y c is closed. absurd (nothing_closed n y c is closed);
     }

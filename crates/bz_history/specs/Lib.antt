@@ -1,3 +1,4 @@
+pub mod BestPosts
 pub mod Budgets
 pub mod Certificates
 pub mod Covers
@@ -11,6 +12,7 @@ pub mod Measures
 pub mod Outcomes
 pub mod Places
 pub mod Pools
+pub mod PostCounts
 pub mod Posts
 pub mod Sizes
 pub mod States

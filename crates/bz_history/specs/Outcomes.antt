@@ -1,12 +1,10 @@
 -- What a search has come to, and that this is true.
 use Rattle.std.specs.Prelude.{ℕ, ◌≡◌, ◌<◌, ◌↔◌, Bool, true, false, ℤ, List, [], ◌∷◌, ◌++◌, Option, Some, None}
 use Rattle.std.specs.List.{list_any}
-use Rattle.bz_algebra.specs.Fractions.{IsSameNumber}
 use Rattle.bz_model.specs.Decomposed.{IsDecomposed}
-use Rattle.bz_model.specs.PartPoints.{HasPointShape, IsPointOf}
-use Rattle.bz_model.specs.Points.{IsInfeasible, IsOptimal, IsUnbounded, objective}
+use Rattle.bz_model.specs.PartPoints.{IsPointOf}
+use Rattle.bz_model.specs.Points.{IsInfeasible, IsOptimal, IsUnbounded}
 use Rattle.bz_model.specs.Splits.{Decomposition}
-use Rattle.bz_model.specs.Stated.{objective_of}
 use Rattle.bz_cut.specs.declared.Mode.{Mode}
 use Rattle.bz_cut.specs.declared.Mode.TheVariants as mode
 use Rattle.bz_tableau.specs.declared.answers.WideAt.{WideAt}
@@ -14,13 +12,13 @@ use Rattle.bz_event.specs.declared.answers.Solved.{Solved}
 use Rattle.bz_event.specs.declared.events.Entry.{Entry}
 use Rattle.bz_event.specs.declared.events.Event.TheVariants as event
 use Rattle.bz_event.specs.declared.events.Why.TheVariants as why
-use Rattle.bz_event.specs.Nodes.{value_of}
 use Rattle.bz_history.specs.declared.state.Outcome.{Outcome}
 use Rattle.bz_history.specs.declared.state.Outcome.TheVariants as outcome
 use Rattle.bz_history.specs.declared.state.Post.{Post}
 use Rattle.bz_history.specs.declared.state.Region.{Region}
 use Rattle.bz_history.specs.declared.state.Stopped.{Stopped}
 use Rattle.bz_history.specs.declared.state.Stopped.TheVariants as stopped
+use Rattle.bz_history.specs.BestPosts.{IsFeasiblePost}
 use Rattle.bz_history.specs.Budgets.{enough}
 use Rattle.bz_history.specs.Finished.{parts_of}
 use Rattle.bz_history.specs.Histories.{IsReplay}
@@ -45,7 +43,7 @@ unless_stopped (Some stopped.Wide) out = outcome.Wide
 abbrev pub outcome_of : State → Outcome
 outcome_of t = unless_stopped t.stop (found (mode_of t) t.best (list_any is_open t.nodes))
 
--- a verdict: that is shown by a certificate
+-- the outcomes that a certificate shows
 abbrev pub HasVerdict : Outcome → Type 0
 HasVerdict outcome.Running = ⊥
 HasVerdict outcome.Optimal = Unit {0}
@@ -54,14 +52,12 @@ HasVerdict outcome.Unbounded = Unit {0}
 HasVerdict outcome.Budget = ⊥
 HasVerdict outcome.Wide = ⊥
 
--- The best post has its shape, each point of its parts is optimal, and their value is its objective.
+-- The best post is completed and has its shape, each point of its parts is optimal, and their value is its objective.
 pub record HasOptimum (d : Decomposition) (t : State) : Type 0 where
   pub post : Post
   pub is_best : IsBest t post
-  pub shape : HasPointShape d.model d.part (parts_of post)
-  pub optimal : (p : List ℤ) (q : ℤ) → IsPointOf d.model d.part (parts_of post) p q →
-      IsOptimal d.model p q
-      × IsSameNumber (objective d.model p q) (objective_of d.model (value_of d.model d.part post.point) post.point.den)
+  pub feasible : IsFeasiblePost d mode.Cost post
+  pub optimal : (p : List ℤ) (q : ℤ) → IsPointOf d.model d.part (parts_of post) p q → IsOptimal d.model p q
 
 -- The units are the budget, which is less than what is enough, and a node is open.
 pub record IsSpent (d : Decomposition) (budget : ℕ) (root : Region) (t : State) : Type 0 where

@@ -50,7 +50,7 @@ pub record IsBasisCut (d : Decomposition) (way : Mode) (cut : Cut) : Type 0 wher
   pub basis : List ℕ
   pub of_basis : CutOf d.model d.part way cut.block basis cut
 
--- Each cut after the floors is that of a basis, and all are of the mode of now.
+-- Each cut after the floors is that of a basis, and all are of the present mode.
 abbrev pub AppendedCutsAreOfBases : Type 0
 AppendedCutsAreOfBases =
     (d : Decomposition) (budget : ℕ) (root : Region) (es : List Entry) (t : State) → IsReplay d budget root es t →

@@ -1,4 +1,5 @@
 //! What is true of every legal history.
+ghost use Rattle.bz_history.specs.BestPosts.{BestPostsAreRight};
 ghost use Rattle.bz_history.specs.Budgets.{EnoughIsEnough};
 ghost use Rattle.bz_history.specs.Certificates.{CertificatesAreRight, CertificatesHaveTheirShape};
 ghost use Rattle.bz_history.specs.Covers.{NothingBetterIsLost};
@@ -12,6 +13,7 @@ ghost use Rattle.bz_history.specs.Measures.{NodesAreFew};
 ghost use Rattle.bz_history.specs.Outcomes.{OutcomesAreTrue};
 ghost use Rattle.bz_history.specs.Places.{PlacesAreRight};
 ghost use Rattle.bz_history.specs.Pools.{AppendedCutsAreOfBases, PoolsAreRight};
+ghost use Rattle.bz_history.specs.PostCounts.{PostsAreFew, PostsHaveNumbers};
 ghost use Rattle.bz_history.specs.Posts.{PostsAreRight};
 ghost use Rattle.bz_history.specs.Sizes.{SizesAreRight};
 ghost use Rattle.bz_history.specs.Trees.{ParentsAreOne, TreesAreWhole};
@@ -33,7 +35,7 @@ pub fn floors_come_first()
     ensures { FloorsComeFirst }
 {}
 
-/// Each cut after the floors is that of a basis of its block's separation, and all are of the mode of now.
+/// Each cut after the floors is that of a basis of its block's separation, and all are of the present mode.
 pub fn appended_cuts_are_of_bases()
     ensures { AppendedCutsAreOfBases }
 {}
@@ -71,6 +73,17 @@ pub fn fronts_rise()
     ensures { FrontsRise }
 {}
 
+/// A node tells how many posts are its own: at most one more than the cuts, and at most all posts. So all are at most so many
+/// for each node.
+pub fn posts_are_few()
+    ensures { PostsAreFew }
+{}
+
+/// With a budget within the limit the posts are fewer than the greatest number of 32 bits.
+pub fn posts_have_numbers()
+    ensures { PostsHaveNumbers }
+{}
+
 /// The nodes that are there, with those that may still come, are at most twice the whole points of the root's box, less one.
 pub fn nodes_are_few()
     ensures { NodesAreFew }
@@ -87,7 +100,8 @@ pub fn enough_is_enough()
     ensures { EnoughIsEnough }
 {}
 
-/// Each place in the history that the state keeps is that of the entry which it speaks of.
+/// Each place in the history that the state keeps is that of the entry which it speaks of. What ended a post is the first entry
+/// that ends it, and none ends a live one.
 pub fn places_are_right()
     ensures { PlacesAreRight }
 {}
@@ -96,6 +110,12 @@ pub fn places_are_right()
 /// the box of an open node.
 pub fn nothing_better_is_lost()
     ensures { NothingBetterIsLost }
+{}
+
+/// The best post, whether a node is open or not, is completed in each block and has its shape; each point of its parts is
+/// feasible, and in mode Cost their value is its objective.
+pub fn best_posts_are_right()
+    ensures { BestPostsAreRight }
 {}
 
 /// Where no node is open, a search without a best post shows that no point is feasible, and in mode Cost each point of the
