@@ -1,7 +1,10 @@
+pub mod AnswersEntered
 pub mod Choosing
 pub mod Chosen
 pub mod CopiedTasks
 pub mod FloorsGiven
+pub mod GapsKept
+pub mod SeparationsGiven
 pub mod Marking
 pub mod NodeFronts
 pub mod StopsGiven

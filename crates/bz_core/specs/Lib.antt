@@ -7,4 +7,5 @@ pub mod Giving
 pub mod Handing
 pub mod Laws
 pub mod Searches
+pub mod Separations
 pub mod Tasks

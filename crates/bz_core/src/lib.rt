@@ -9,6 +9,7 @@ mod appending;
 mod certificates;
 mod choices;
 mod copies;
+mod entering;
 mod giving_floors;
 mod giving_stops;
 mod handing;
