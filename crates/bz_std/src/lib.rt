@@ -41,6 +41,4 @@ pub use stops::BuildStop;
 pub use variables::differences;
 
 #[cfg(test)]
-mod made_tests;
-#[cfg(test)]
 mod tests;
