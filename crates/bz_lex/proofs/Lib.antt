@@ -1,7 +1,6 @@
 pub mod AnswersOfSigns
 pub mod BasesUnrelaxed
 pub mod BasicValues
-pub mod BuiltRows
 pub mod EndsOfPhases
 pub mod GoalWays
 pub mod LeastMultiples

@@ -20,8 +20,3 @@ mod values;
 pub use answering::answer_at;
 pub use laws::signs_are_those_of_answers;
 pub use solving::{relax, solve};
-
-#[cfg(test)]
-mod degenerate_tests;
-#[cfg(test)]
-mod tests;

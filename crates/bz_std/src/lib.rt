@@ -39,6 +39,3 @@ pub use reduction::lowest;
 pub use separation::separation_lp;
 pub use stops::BuildStop;
 pub use variables::differences;
-
-#[cfg(test)]
-mod tests;

@@ -2,8 +2,6 @@
 #![tactic(auto)]
 
 mod check;
-#[cfg(test)]
-mod edge_tests;
 mod job;
 mod loading;
 mod parting;
@@ -11,15 +9,7 @@ mod print;
 mod put_parts;
 mod running;
 mod said;
-#[cfg(test)]
-mod size_tests;
-#[cfg(test)]
-mod split_tests;
 mod status;
-#[cfg(test)]
-mod tests;
-#[cfg(test)]
-mod verdict_tests;
 mod words;
 
 pub use job::{FileName, Job};

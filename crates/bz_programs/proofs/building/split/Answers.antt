@@ -1,5 +1,5 @@
 use Rattle.bz_cut.proofs.WorkedSplits.{linked_indexes, linked_partition, linked_strict}
-use Rattle.bz_std.proofs.tests.split.Goals as goal
+use Rattle.bz_programs.proofs.building.split.Goals as goal
 
 pub new-requires-clause-indexes : goal.new-requires-clause-indexes
 new-requires-clause-indexes c = linked_indexes _ _ _ c.in_ok-model.model c.in_ok-model.ensures.columns c.in_ok-model.ensures.rows c.in_ok-model.ensures.cost

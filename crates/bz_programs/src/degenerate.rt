@@ -4,7 +4,7 @@ ghost use Rattle.std.specs.Prelude.{◌<◌, IfOk, length};
 ghost use Rattle.bz_algebra.specs.Sums.{AllBelow};
 ghost use Rattle.bz_tableau.specs.Programs.{IsLp};
 
-use crate::{relax, solve};
+use bz_lex::{relax, solve};
 use bz_num::{Items, SparseRow};
 use bz_tableau::{Answer, Lp, LpRow, Vals};
 use std::alloc::{AllocError, Global};

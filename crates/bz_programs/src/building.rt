@@ -8,12 +8,12 @@ ghost use Rattle.bz_model.specs.Worked.{AreWorkedColumns};
 ghost use Rattle.bz_cut.specs.Worked.{AreLinked};
 ghost use Rattle.bz_std.specs.Tasks.{IsCutOfSplit, IsMasterOf};
 
-use crate::{
-    BuildStop, floor_lp, is_floor_lp, is_node_lp, is_separation_lp, node_lp, separation_lp,
-};
 use bz_cut::{Cut, Mode};
 use bz_model::{Column, Master, Model, Row, Split};
 use bz_num::{Frac, Items, Name, OutOfMemory, SparseRow};
+use bz_std::{
+    BuildStop, floor_lp, is_floor_lp, is_node_lp, is_separation_lp, node_lp, separation_lp,
+};
 use bz_tableau::{Lp, WideAt};
 use bz_tree::root_box;
 use std::alloc::Global;

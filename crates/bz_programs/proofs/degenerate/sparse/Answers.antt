@@ -4,8 +4,8 @@ use Rattle.std.specs.Int.{w128}
 use Rattle.std.proofs.lemmas.Int.{ints}
 use Rattle.bz_algebra.specs.Numbers.{IsNarrow}
 use Rattle.bz_num.specs.Row.{IsEntryFrom}
-use Rattle.bz_lex.proofs.BuiltRows.{sparse_more, below_more, below_wider}
-use Rattle.bz_lex.proofs.degenerate_tests.sparse.Goals as goal
+use Rattle.bz_programs.proofs.BuiltRows.{sparse_more, below_more, below_wider}
+use Rattle.bz_programs.proofs.degenerate.sparse.Goals as goal
 
 pub loop-j-preserved-then-number-eq0 : goal.loop-j-preserved-then-number-eq0
 loop-j-preserved-then-number-eq0 g c = (c.loop-j.invariant.0, below_wider c.loop-j.j (c.loop-j.j + 1) c.loop-j.pairs.items c.loop-j.invariant.1 (omega arith))

@@ -1,6 +1,6 @@
 //! Worked certificates of the three verdicts through the top call, and what is printed of them.
-use crate::Status;
-use crate::tests::{Case, FIRST, ends};
+use crate::checks::{Case, FIRST, ends};
+use bz_top::Status;
 use std::alloc::{AllocError, Global};
 use std::test::Fail;
 

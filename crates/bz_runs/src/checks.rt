@@ -1,6 +1,6 @@
 //! The top call over a desk and a sink in memory.
-use crate::{Status, run};
 use bz_io::{MemDesk, MemSink};
+use bz_top::{Status, run};
 use std::alloc::{AllocError, Global};
 use std::test::Fail;
 

@@ -1,6 +1,6 @@
 //! Texts at the edges of what is read, with what the program prints of them.
-use crate::Status;
-use crate::tests::{CERT, Case, FIRST, MODEL, PART, ends};
+use crate::checks::{CERT, Case, FIRST, MODEL, PART, ends};
+use bz_top::Status;
 use std::alloc::{AllocError, Global};
 use std::test::Fail;
 

@@ -6,7 +6,7 @@ ghost use Rattle.bz_num.specs.Row.{IsSparse};
 ghost use Rattle.bz_tableau.specs.Programs.{IsLp};
 ghost use Rattle.bz_tableau.specs.Tables.{IsTableauOf, factor_column};
 
-use crate::{answer_at, relax, solve};
+use bz_lex::{answer_at, relax, solve};
 use bz_num::{Items, OutOfMemory, SparseRow};
 use bz_tableau::{Answer, Lp, LpRow, LpStop, Tableau, Vals, WideAt};
 use std::alloc::Global;

@@ -1,6 +1,6 @@
 //! The words `split m p` over whole texts: the parts that are printed, and why there are none.
-use crate::Status;
-use crate::tests::{Case, FIRST, PART, ends};
+use crate::checks::{Case, FIRST, PART, ends};
+use bz_top::Status;
 use std::alloc::{AllocError, Global};
 use std::test::Fail;
 

@@ -1,6 +1,6 @@
 //! A model of 500 columns and one that is maximised: what a check and a split of them print.
-use crate::Status;
-use crate::tests::{CERT, Case, FIRST, ends};
+use crate::checks::{CERT, Case, FIRST, ends};
+use bz_top::Status;
 use std::alloc::{AllocError, Global};
 use std::test::Fail;
 

@@ -2,7 +2,7 @@ use Rattle.std.proofs.Common.{◌≡◌, length, pos, arith}
 use Rattle.std.proofs.lemmas.Int.{ints}
 use Rattle.bz_model.proofs.WorkedModel.{two_columns}
 use Rattle.bz_cut.proofs.WorkedSplits.{one_row}
-use Rattle.bz_std.proofs.tests.model.Goals as goal
+use Rattle.bz_programs.proofs.building.model.Goals as goal
 
 pub invariant_of-result : goal.invariant_of-result
 invariant_of-result c =
