@@ -1,0 +1,4 @@
+pub mod Events
+pub mod Lowering
+pub mod NodesLeft
+pub mod Sums
