@@ -7,5 +7,7 @@ pub mod GapsKept
 pub mod SeparationsGiven
 pub mod Marking
 pub mod NodeFronts
+pub mod NodesEntered
+pub mod NodesPlanned
 pub mod StopsGiven
 pub mod TasksThere
