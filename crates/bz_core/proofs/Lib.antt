@@ -9,5 +9,6 @@ pub mod Marking
 pub mod NodeFronts
 pub mod NodesEntered
 pub mod NodesPlanned
+pub mod SplitSides
 pub mod StopsGiven
 pub mod TasksThere

@@ -1,10 +1,11 @@
 //! What an answer of a node makes, planned before anything changes. It takes memory.
-ghost use Rattle.std.specs.Prelude.{ℕ, ◌≡◌, ◌==◌, ◌∷◌, [], IfOk, None, cond, length, replicate};
-ghost use Rattle.bz_model.specs.Parting.{blocks_of};
+ghost use Rattle.std.specs.Prelude.{ℕ, ◌≡◌, ◌<◌, ◌==◌, ◌∷◌, [], IfOk, None, cond, length, replicate};
+ghost use Rattle.bz_model.specs.Parting.{blocks_of, integers_of};
+ghost use Rattle.bz_tree.specs.Ends.{box_of as box_held};
 ghost use Rattle.bz_tree.specs.Integers.{integer_at};
 ghost use Rattle.bz_event.specs.declared.events.Event.TheVariants as event;
 ghost use Rattle.bz_event.specs.declared.events.How.TheVariants as how;
-ghost use Rattle.bz_history.specs.States.{above, below, mode_of};
+ghost use Rattle.bz_history.specs.States.{above, below, box_of, mode_of};
 ghost use Rattle.bz_rules.specs.Entries.{complete_events, node_events, point_events, reaching, unless_reaching};
 ghost use Rattle.bz_rules.specs.Shapes.{FitsSplit, IsRegionOf};
 ghost use Rattle.bz_core.specs.Nodes.{Adds, CanAdd, CanBePlanned, HasPositiveLeaf, HasValue, IsNodePlan, SplitsRegion};
@@ -181,9 +182,21 @@ pub(crate) fn plan_node(
     }
 }
 
+/// The place among the integer columns of the one that stands at the position.
+fn place_of(alloc: Global, split: &Split, wanted: u32) -> Result<u32, OutOfMemory>
+    requires { integer_at split.now.model split.now.part wanted < length (integers_of split.now.model) }
+    ensures { IfOk result (λ place. place ≡ integer_at split.now.model split.now.part wanted) }
+{
+    let positions = integer_positions(alloc, split)?;
+    let Some(place) = integer_column(positions.as_slice(), wanted) else {
+        unreachable!()
+    };
+    Ok(place as u32)
+}
+
 /// The region of a box.
 fn region_of(b: NodeBox) -> Region
-    ensures { result ≡ record { lower = b.lower; upper = b.upper } }
+    ensures { box_of result ≡ box_held b }
 {
     Region {
         lower: b.lower,
@@ -206,12 +219,9 @@ fn sides_of(
     ensures right { IfOk result (λ sides. sides.1
         ≡ above (integer_at split.now.model split.now.part position) value region.now) }
 {
-    let positions = integer_positions(alloc, split)?;
-    let Some(place) = integer_column(positions.as_slice(), position) else {
-        unreachable!()
-    };
+    let place = place_of(alloc, split, position)?;
     let own = box_of(alloc, region)?;
-    let (left, right) = split_box(alloc, &own, place as u32, value)?;
+    let (left, right) = split_box(alloc, &own, place, value)?;
     Ok((region_of(left), region_of(right)))
 }
 
