@@ -1,10 +1,9 @@
 -- Answers of nodes that keep their makers' promises can be planned.
-use Rattle.std.proofs.Common.{◌≡◌, refl, sym, ◌∙◌, subst, ℕ, ◌+◌, ◌-◌, ◌^◌, ◌<◌, ◌≤◌, List, [], ◌∷◌, length, take, arith}
+use Rattle.std.proofs.Common.{◌≡◌, refl, sym, subst, ℕ, ◌+◌, ◌-◌, ◌^◌, ◌<◌, ◌≤◌, List, [], ◌∷◌, length, take, arith}
 use Rattle.std.proofs.lemmas.Option.{slice_get_within}
 use Rattle.std.specs.Prelude.{Option, Some, None, ℤ, pos, ◌+ℤ◌}
 use Rattle.bz_first.specs.Tests.{AllHold}
 use Rattle.bz_num.specs.Dense.{entry}
-use Rattle.bz_model.specs.declared.Master.{Master}
 use Rattle.bz_model.specs.declared.Model.{Model}
 use Rattle.bz_model.specs.Parting.{integers_of}
 use Rattle.bz_model.specs.Splits.{Decomposition}
@@ -26,7 +25,7 @@ use Rattle.bz_event.specs.declared.events.Entry.{Entry}
 use Rattle.bz_event.specs.declared.events.Event.{Event}
 use Rattle.bz_event.specs.declared.events.Event.TheVariants as event
 use Rattle.bz_event.specs.declared.events.How.TheVariants as how
-use Rattle.bz_event.specs.Nodes.{HasLeafOfValue, IsNodeAnswer, IsPointOfNode, IsSplitNode, SolvesSomeNode}
+use Rattle.bz_event.specs.Nodes.{HasLeafOfValue, IsNodeAnswer, IsSplitNode, SolvesSomeNode}
 use Rattle.bz_history.specs.declared.state.Node.{Node}
 use Rattle.bz_history.specs.declared.state.Region.{Region}
 use Rattle.bz_history.specs.States.{State, box_of, mode_of}
@@ -38,10 +37,10 @@ use Rattle.bz_rules.specs.Following.{IsUnderWay}
 use Rattle.bz_rules.specs.Rules.{node_rules}
 use Rattle.bz_rules.proofs.FittingStates.{states_fit}
 use Rattle.bz_rules.proofs.NodeEnds.{lower_end, upper_end}
-use Rattle.bz_rules.proofs.Tasks.{IsAnswered, IsTask, cuts_of_split, one_mode, task_of}
+use Rattle.bz_rules.proofs.Tasks.{IsTask, cuts_of_split, one_mode, task_of}
 use Rattle.bz_state.specs.Views.{number_limit}
 use Rattle.bz_core.specs.declared.entering.Planned.{Planned}
-use Rattle.bz_core.specs.Nodes.{CanAdd, CanBePlanned, CountsPost, FitsAnswer, HasPositiveLeaf, HasValue, SplitsRegion}
+use Rattle.bz_core.specs.Nodes.{CanAdd, CanBePlanned, CountsPost, FitsAnswer, HasPositiveLeaf, SplitsRegion}
 use Rattle.bz_core.specs.Searches.{IsSearch, Marks}
 use Rattle.bz_core.specs.Separations.{planned_events}
 

@@ -21,7 +21,7 @@ use Rattle.bz_history.specs.declared.state.Node.{Node}
 use Rattle.bz_history.specs.declared.state.Region.{Region}
 use Rattle.bz_history.specs.States.{State, mode_of}
 use Rattle.bz_history.specs.Steps.{IsAt}
-use Rattle.bz_rules.specs.Entries.{node_events}
+use Rattle.bz_rules.specs.Entries.{and_stop, node_events}
 use Rattle.bz_rules.specs.Shapes.{FitsSplit, IsRegionOf}
 use Rattle.bz_state.specs.Views.{AreSides, HasPlace, Progress, number_limit}
 use Rattle.bz_core.specs.declared.planning_nodes.Added.{Added}
@@ -127,6 +127,11 @@ pub record FitsPlan (d : Decomposition) (t : State) (plan : NodePlan) : Type 0 w
   pub adds : Adds d t plan.entered.first plan.added
 
 -- the events are those of the answer
-pub record IsNodePlan (d : Decomposition) (t : State) (number front : ℕ) (a : NodeAnswer) (plan : NodePlan) : Type 0 where
+pub record IsNodePlan (d : Decomposition) (t : State) (number front : ℕ) (a : NodeAnswer) (plan : NodePlan)
+    : Type 0 where
   pub events : planned_events (length t.posts) plan.appended ≡ node_events d t number front a
   pub fits : FitsPlan d t plan
+
+-- what a plan appends, with the stop for the budget where the units are spent
+abbrev pub plan_entries : Decomposition → (budget : ℕ) → State → NodePlan → List Event
+plan_entries d budget t plan = and_stop d budget t (planned_events (length t.posts) plan.appended)

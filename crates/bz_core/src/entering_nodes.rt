@@ -3,13 +3,11 @@ ghost use Rattle.std.specs.Prelude.{◌≡◌, ◌≤◌, ◌<◌, ◌+◌, ◌^
 ghost use Rattle.bz_history.specs.States.{effect};
 ghost use Rattle.bz_rules.specs.Entries.{after, and_stop, is_spent};
 ghost use Rattle.bz_rules.specs.Following.{stamped};
-ghost use Rattle.bz_state.specs.Views.{HasPlace, number_limit};
-ghost use Rattle.bz_core.specs.Nodes.{Adds, EntersNode, FitsPlan};
+ghost use Rattle.bz_state.specs.Views.{number_limit};
+ghost use Rattle.bz_core.specs.Nodes.{Adds, EntersNode, FitsPlan, plan_entries};
 ghost use Rattle.bz_core.specs.Separations.{planned_events};
 
-use crate::entering::{
-    Planned, count_events, enter_best, enter_closing, enter_stop, push_events,
-};
+use crate::entering::{Planned, count_events, enter_best, enter_closing, enter_stop, push_events};
 use crate::planning_nodes::{Added, NodePlan};
 use bz_event::{Entry, Event, How, Stamp};
 use bz_model::Split;
@@ -24,14 +22,24 @@ fn enter_node(split: &Split, progress: &mut Progress, event: Event, added: Added
     match event {
         Event::Close { node, how } => match how {
             How::Leaf { front, leaf } => progress.close(node, front, leaf),
-            How::Split { front, basis, position, value } => {
+            How::Split {
+                front,
+                basis,
+                position,
+                value,
+            } => {
                 let Added::Sides { left, right } = added else {
                     unreachable!()
                 };
                 progress.split(split, node, front, basis, position, value, (left, right));
             }
         },
-        Event::Post { node, front, point, leaf } => {
+        Event::Post {
+            node,
+            front,
+            point,
+            leaf,
+        } => {
             let Added::Fills(fills) = added else {
                 unreachable!()
             };
@@ -41,8 +49,9 @@ fn enter_node(split: &Split, progress: &mut Progress, event: Event, added: Added
     }
 }
 
-/// Enters the events of a node's answer, and the stop for the budget where the units are spent: whether they are comes back.
-pub(crate) fn enter_node_answer(
+/// Enters the events of a node's answer, and the stop for the budget where the units are spent. Whether they are comes
+/// back.
+fn enter_node_answer(
     split: &Split,
     progress: &mut Progress,
     budget: u32,
@@ -56,7 +65,8 @@ pub(crate) fn enter_node_answer(
     requires place { progress.old.state.entries + 4 < 2 ^ 64 }
     requires units { progress.old.state.units + 1 < number_limit }
     ensures state { progress.new.state
-        ≡ after split.now progress.old.state (and_stop split.now budget progress.old.state (planned_events number entered)) }
+        ≡ after split.now progress.old.state
+        (and_stop split.now budget progress.old.state (planned_events number entered)) }
     ensures spent { result ≡ is_spent budget (after split.now progress.old.state (planned_events number entered)) }
 {
     let Planned { first, completion } = entered;
@@ -84,12 +94,11 @@ pub(crate) fn enter_plan(
     requires place { progress.old.state.entries + 4 < 2 ^ 64 }
     requires units { progress.old.state.units + 1 < number_limit }
     requires plan { FitsPlan split.now progress.old.state plan }
-    ensures state { progress.new.state ≡ after split.now progress.old.state
-        (and_stop split.now budget progress.old.state (planned_events (length progress.old.state.posts) plan.appended)) }
-    ensures items { history.new.items ≡ history.old.items ++ stamped stamp.worker stamp.count
-        (and_stop split.now budget progress.old.state (planned_events (length progress.old.state.posts) plan.appended)) }
-    ensures entries { result ≡ length
-        (and_stop split.now budget progress.old.state (planned_events (length progress.old.state.posts) plan.appended)) }
+    ensures state { progress.new.state
+        ≡ after split.now progress.old.state (plan_entries split.now budget progress.old.state plan) }
+    ensures items { history.new.items ≡ history.old.items
+        ++ stamped stamp.worker stamp.count (plan_entries split.now budget progress.old.state plan) }
+    ensures entries { result ≡ length (plan_entries split.now budget progress.old.state plan) }
 {
     let NodePlan {
         entered,

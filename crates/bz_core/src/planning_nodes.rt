@@ -110,7 +110,7 @@ fn completion_of(
     requires point { HasValue split.now (mode_of progress.now.state) point.now }
     ensures { IfOk result (λ completion. (number : ℕ) → completion_events number completion
         ≡ cond (blocks_of split.now.part == 0)
-            (complete_events split.now progress.now.state number node front point.now leaf.now) []) }
+        (complete_events split.now progress.now.state number node front point.now leaf.now) []) }
 {
     if split.blocks() != 0 {
         return Ok(no_completion());
@@ -149,7 +149,7 @@ fn plan_point(
 }
 
 /// Plans the events of a node's answer.
-pub(crate) fn plan_node(
+fn plan_node(
     alloc: Global,
     split: &Split,
     progress: &Progress,
@@ -238,7 +238,7 @@ fn no_fills(alloc: Global, split: &Split) -> Result<Items<Option<Filled>>, OutOf
 }
 
 /// What an event adds, which is the first of a node's answer.
-pub(crate) fn added_by(
+fn added_by(
     alloc: Global,
     split: &Split,
     progress: &Progress,
@@ -251,7 +251,9 @@ pub(crate) fn added_by(
         Event::Close {
             node,
             how: How::Split {
-                position, value, ..
+                position,
+                value,
+                ..
             },
         } => {
             let region = &progress.nodes()[*node as usize].region;

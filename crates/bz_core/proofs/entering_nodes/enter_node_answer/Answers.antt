@@ -1,7 +1,7 @@
-use Rattle.std.proofs.Common.{◌≡◌, ◌≤◌, ◌∙◌, ap, sym, suc, arith}
-use Rattle.bz_history.specs.States.{State, effect}
-use Rattle.bz_rules.specs.Entries.{after, is_spent}
-use Rattle.bz_core.specs.Separations.{best_events, planned_events}
+use Rattle.std.proofs.Common.{◌∙◌, ap, arith}
+use Rattle.bz_history.specs.States.{State}
+use Rattle.bz_rules.specs.Entries.{is_spent}
+use Rattle.bz_core.specs.Separations.{planned_events}
 use Rattle.bz_core.proofs.AnswersEntered.{a_unit_at_most, best_entries, best_units, closing_entries, entered, entered_all, one_more}
 use Rattle.bz_core.proofs.entering_nodes.enter_node_answer.Goals as goal
 

@@ -1,4 +1,4 @@
-use Rattle.std.proofs.Common.{◌≡◌, rules, FitsSigned, to_z-of_z}
+use Rattle.std.proofs.Common.{rules, FitsSigned, to_z-of_z}
 use Rattle.std.specs.Int.{w128}
 use Rattle.bz_tree.specs.Ends.{box_of as box_held}
 use Rattle.bz_tree.specs.Integers.{integer_at}
