@@ -7,7 +7,9 @@ pub mod GapsKept
 pub mod SeparationsGiven
 pub mod Marking
 pub mod NodeFronts
+pub mod NodesAccepted
 pub mod NodesEntered
+pub mod NodesGiven
 pub mod NodesPlanned
 pub mod SplitSides
 pub mod StopsGiven

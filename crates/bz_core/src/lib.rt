@@ -13,6 +13,7 @@ mod copies;
 mod entering;
 mod entering_nodes;
 mod giving_floors;
+mod giving_nodes;
 mod giving_stops;
 mod handing;
 mod handouts;
