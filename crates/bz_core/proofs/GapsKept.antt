@@ -1,9 +1,10 @@
 -- While a search isn't done, each live post has a block that isn't completed, also after an answer of a separation.
-use Rattle.std.proofs.Common.{◌≡◌, true, false, refl, sym, ◌∙◌, ap, subst, ℕ, zero, suc, ◌-◌, ◌<◌, List, [], ◌∷◌, ◌++◌, length, inl, inr, arith}
+use Rattle.std.proofs.Common.{◌≡◌, true, false, refl, sym, ◌∙◌, ap, subst, ℕ, suc, ◌-◌, List, [], ◌∷◌, ◌++◌, inl, inr}
 use Rattle.std.proofs.lemmas.Bool.{cases_Bool}
 use Rattle.std.specs.Prelude.{◌⊎◌, Option, Some, None, Bool, not, ◌||◌, ◌&&◌, cond, is_none, is_some, set}
 use Rattle.std.specs.List.{list_any, slice_get}
 use Rattle.bz_model.specs.declared.BlockPart.{BlockPart}
+use Rattle.bz_model.specs.declared.Master.{Master}
 use Rattle.bz_model.specs.Splits.{Decomposition}
 use Rattle.bz_cut.specs.declared.Cut.{Cut}
 use Rattle.bz_cut.specs.declared.Mode.{Mode}
@@ -11,13 +12,11 @@ use Rattle.bz_cut.specs.declared.Mode.TheVariants as mode
 use Rattle.bz_tree.specs.declared.Leaf.{Leaf}
 use Rattle.bz_event.specs.declared.events.Event.{Event}
 use Rattle.bz_event.specs.declared.events.Event.TheVariants as event
-use Rattle.bz_event.specs.declared.events.How.TheVariants as how
 use Rattle.bz_event.specs.declared.events.Why.TheVariants as why
 use Rattle.bz_history.specs.declared.state.FallingRay.{FallingRay}
 use Rattle.bz_history.specs.declared.state.Filled.{Filled}
 use Rattle.bz_history.specs.declared.state.Node.{Node}
 use Rattle.bz_history.specs.declared.state.Post.{Post}
-use Rattle.bz_history.specs.Lives.{AreLives, HasLivePost}
 use Rattle.bz_history.specs.States.{State, changed, changed_at, effect, ended_by, filled_by, is_done, is_live, is_open, live_of, mode_for, mode_of}
 use Rattle.bz_history.specs.Steps.{IsAt}
 use Rattle.bz_history.proofs.Lists.{at_changed, at_one, changed_here}
@@ -115,6 +114,28 @@ done_in_point false true ray number h = refl
 done_in_point false false (Some ray) number h = refl
 done_in_point false false None number h = absurd (cc)
 
+-- a post that is complete is ended, or ends the search
+pub gaps_complete : (d : Decomposition) (t u : State) (number node front : ℕ) (point : Master) (leaf : Option Leaf) → mode_of u ≡ mode_of t
+    → live_of (slice_get u.nodes node) ≡ Some number → OthersHaveGaps number u.posts → (mode_of t ≡ mode.Cost → (l : Leaf) × (leaf ≡ Some l))
+    → HasGaps (after d u (complete_events d t number node front point leaf))
+gaps_complete d t u number node front point leaf same live others leaf_is = by (mode_of t) (is_better d t (mode_of t) point) leaf refl refl refl
+  where
+    closed : (at : ℕ) → HaveGaps (changed_at (ended_by at) u.posts (live_of (slice_get u.nodes node)))
+    closed at = subst (λ (o : Option ℕ). HaveGaps (changed_at (ended_by at) u.posts o)) (sym live) (gaps_ended at number u.posts others)
+
+    by : (way : Mode) (b : Bool) (o : Option Leaf) → mode_of t ≡ way → is_better d t way point ≡ b → leaf ≡ o
+        → HasGaps (after d u (cond b (event.Incumbent number ∷ []) [] ++ leaf_events way node front o))
+    by mode.Point true o way better is running =
+        let over : is_done (effect d u (event.Incumbent number)) ≡ true = done_in_point (is_some u.stop) (not (list_any is_open u.nodes)) u.ray number (same ∙ way) in
+        absurd (cc)
+    by mode.Point false o way better is running = absurd (cc)
+    by mode.Cost b None way better is running =
+        let l : (x : Leaf) × (leaf ≡ Some x) = leaf_is way in
+        let none : None ≡ Some l.0 = sym is ∙ l.1 in
+        absurd (cc)
+    by mode.Cost true (Some leaf) way better is running = closed _
+    by mode.Cost false (Some leaf) way better is running = closed _
+
 -- a post with its place, its node and its leaf, as a legal history has it
 pub record IsHome (t : State) (number : ℕ) (post : Post) : Type 0 where
   pub is_post : IsAt t.posts number post
@@ -126,28 +147,9 @@ pub record IsHome (t : State) (number : ℕ) (post : Post) : Type 0 where
 pub gaps_fill : (d : Decomposition) (t : State) (number block : ℕ) (y : BlockPart) (post : Post) → IsHome t number post → HaveGaps t.posts → HasGaps (after d t (fill_events d t number block y (Some post)))
 gaps_fill d t number block y post home h = by (is_last block y t.entries post) refl
   where
-    filled : List Post
-    filled = changed (filled_by t.entries block y) t.posts number
-
-    closed : (at : ℕ) → HaveGaps (changed_at (ended_by at) (changed (filled_by t.entries block y) t.posts number) (live_of (slice_get t.nodes post.node)))
-    closed at =
-        let live : live_of (slice_get t.nodes post.node) ≡ Some number = ap live_of home.is_node ∙ home.live in
-        subst (λ (o : Option ℕ). HaveGaps (changed_at (ended_by at) (changed (filled_by t.entries block y) t.posts number) o)) (sym live)
-        (gaps_ended at number (changed (filled_by t.entries block y) t.posts number) (others_filled t.entries number block y t.posts h))
-
-    complete : (way : Mode) (b : Bool) (o : Option Leaf) → mode_of t ≡ way → is_better d t way post.point ≡ b → post.leaf ≡ o
-        → HasGaps (after d (effect d t (event.Fill number block y)) (cond b (event.Incumbent number ∷ []) [] ++ leaf_events way post.node post.front o))
-    complete mode.Point true o way better is running =
-        let over : is_done (effect d (effect d t (event.Fill number block y)) (event.Incumbent number)) ≡ true = done_in_point (is_some t.stop) (not (list_any is_open t.nodes)) t.ray number way in
-        absurd (cc)
-    complete mode.Point false o way better is running = absurd (cc)
-    complete mode.Cost b None way better is running =
-        let l : (x : Leaf) × (post.leaf ≡ Some x) = home.leaf way in
-        let none : None ≡ Some l.0 = sym is ∙ l.1 in
-        absurd (cc)
-    complete mode.Cost true (Some leaf) way better is running = closed _
-    complete mode.Cost false (Some leaf) way better is running = closed _
+    live : live_of (slice_get t.nodes post.node) ≡ Some number
+    live = ap live_of home.is_node ∙ home.live
 
     by : (b : Bool) → is_last block y t.entries post ≡ b → HasGaps (after d (effect d t (event.Fill number block y)) (cond b (complete_events d t number post.node post.front post.point post.leaf) []))
     by false more = λ running. gaps_filled t.entries number block y t.posts post home.is_post more h
-    by true last = complete (mode_of t) (is_better d t (mode_of t) post.point) post.leaf refl refl refl
+    by true last = gaps_complete d t (effect d t (event.Fill number block y)) number post.node post.front post.point post.leaf refl live (others_filled t.entries number block y t.posts h) home.leaf

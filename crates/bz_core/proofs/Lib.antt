@@ -7,5 +7,10 @@ pub mod GapsKept
 pub mod SeparationsGiven
 pub mod Marking
 pub mod NodeFronts
+pub mod NodesAccepted
+pub mod NodesEntered
+pub mod NodesGiven
+pub mod NodesPlanned
+pub mod SplitSides
 pub mod StopsGiven
 pub mod TasksThere

@@ -46,9 +46,9 @@ use Rattle.bz_core.proofs.Marking.{block_marked_kept}
 use Rattle.bz_core.proofs.GapsKept.{HasGaps, HaveGaps, IsHome, gaps_and_stop, gaps_cut, gaps_fill}
 
 -- ---- as many nodes and posts as before
-record AreAsMany (t u : State) : Type 0 where
-  nodes : length u.nodes ≡ length t.nodes
-  posts : length u.posts ≡ length t.posts
+pub record AreAsMany (t u : State) : Type 0 where
+  pub nodes : length u.nodes ≡ length t.nodes
+  pub posts : length u.posts ≡ length t.posts
 
 as_many_then : (t u v : State) → AreAsMany t u → AreAsMany u v → AreAsMany t v
 as_many_then t u v h g = record { nodes = g.nodes ∙ h.nodes; posts = g.posts ∙ h.posts }
@@ -57,16 +57,16 @@ length-where : (b : Bool) (nodes later : List Node) → length later ≡ length 
 length-where true nodes later h = h
 length-where false nodes later h = refl
 
-length-freed : (o : Option Post) (number : ℕ) (nodes : List Node) → length (freed_where_live o number nodes) ≡ length nodes
+pub length-freed : (o : Option Post) (number : ℕ) (nodes : List Node) → length (freed_where_live o number nodes) ≡ length nodes
 length-freed None number nodes = refl
 length-freed (Some post) number nodes = length-where (is_live post) nodes _ (length-changed (freed_by number) nodes post.node)
 
-length-ended : (at : ℕ) (posts : List Post) (o : Option ℕ) → length (changed_at (ended_by at) posts o) ≡ length posts
+pub length-ended : (at : ℕ) (posts : List Post) (o : Option ℕ) → length (changed_at (ended_by at) posts o) ≡ length posts
 length-ended at posts None = refl
 length-ended at posts (Some i) = length-changed (ended_by at) posts i
 
 -- events of a separation's answer
-abbrev IsQuiet : Event → Type 0
+abbrev pub IsQuiet : Event → Type 0
 IsQuiet (event.Append post basis cut) = Unit {0}
 IsQuiet (event.Again post basis place) = Unit {0}
 IsQuiet (event.Fill post block y) = Unit {0}
@@ -96,19 +96,19 @@ quiet_step d t (event.Floor block basis cut) h = absurd h
 quiet_step d t (event.Ray block direction) h = absurd h
 quiet_step d t (event.Post node front point leaf) h = absurd h
 
-quiet_steps : (d : Decomposition) (t : State) (events : List Event) → AllByRecursion IsQuiet events → AreAsMany t (after d t events)
+pub quiet_steps : (d : Decomposition) (t : State) (events : List Event) → AllByRecursion IsQuiet events → AreAsMany t (after d t events)
 quiet_steps d t [] h = record { nodes = refl; posts = refl }
 quiet_steps d t (e ∷ events) h = as_many_then t (effect d t e) (after d (effect d t e) events) (quiet_step d t e h.0) (quiet_steps d (effect d t e) events h.1)
 
-quiet_more : (xs ys : List Event) → AllByRecursion IsQuiet xs → AllByRecursion IsQuiet ys → AllByRecursion IsQuiet (xs ++ ys)
+pub quiet_more : (xs ys : List Event) → AllByRecursion IsQuiet xs → AllByRecursion IsQuiet ys → AllByRecursion IsQuiet (xs ++ ys)
 quiet_more [] ys h g = g
 quiet_more (x ∷ xs) ys h g = (h.0, quiet_more xs ys h.1 g)
 
-quiet_stop : (b : Bool) → AllByRecursion IsQuiet (cond b (event.Stop why.Budget ∷ []) [])
+pub quiet_stop : (b : Bool) → AllByRecursion IsQuiet (cond b (event.Stop why.Budget ∷ []) [])
 quiet_stop true = (tt, tt)
 quiet_stop false = tt
 
-quiet_best : (b : Bool) (number : ℕ) → AllByRecursion IsQuiet (cond b (event.Incumbent number ∷ []) [])
+pub quiet_best : (b : Bool) (number : ℕ) → AllByRecursion IsQuiet (cond b (event.Incumbent number ∷ []) [])
 quiet_best true number = (tt, tt)
 quiet_best false number = tt
 
@@ -135,7 +135,7 @@ quiet d t number block known (answer.Cut basis cut) = quiet_cut number basis cut
 quiet d t number block known (answer.Fill y) = quiet_fill d t number block y (slice_get t.posts number)
 
 -- ---- gaps
-leaf_there : (d : Decomposition) (box : Box) (cuts : List Cut) (way : Mode) (value den : _) (o : Option Leaf) → HasLeafOfValue d.model d.part box cuts way value den o → way ≡ mode.Cost → (l : Leaf) × (o ≡ Some l)
+pub leaf_there : (d : Decomposition) (box : Box) (cuts : List Cut) (way : Mode) (value den : _) (o : Option Leaf) → HasLeafOfValue d.model d.part box cuts way value den o → way ≡ mode.Cost → (l : Leaf) × (o ≡ Some l)
 leaf_there d box cuts mode.Cost value den (Some l) h is = (l, refl)
 leaf_there d box cuts mode.Cost value den None h is = absurd h
 leaf_there d box cuts mode.Point value den o h is = absurd (cc)
@@ -154,7 +154,7 @@ module _ (d : Decomposition) (budget : ℕ) (root : Region) (es : List Entry) (t
       (gaps_fill d t number block y post (home number post at rules.1.0) (is.gaps running))
 
 -- ---- prefixes
-follow_front : (d : Decomposition) (budget : ℕ) (t : State) (xs ys : List Event) → FollowInTurn d budget t (xs ++ ys) → FollowInTurn d budget t xs
+pub follow_front : (d : Decomposition) (budget : ℕ) (t : State) (xs ys : List Event) → FollowInTurn d budget t (xs ++ ys) → FollowInTurn d budget t xs
 follow_front d budget t [] ys h = tt
 follow_front d budget t (x ∷ xs) ys h = (h.0, h.1, follow_front d budget (effect d t x) xs ys h.2)
 

@@ -6,6 +6,8 @@ pub mod Floors
 pub mod Giving
 pub mod Handing
 pub mod Laws
+pub mod Marking
+pub mod Nodes
 pub mod Searches
 pub mod Separations
 pub mod Tasks

@@ -45,7 +45,7 @@ fn enter_first(progress: &mut Progress, event: Event)
 }
 
 /// The post is the best so far, where it is better.
-fn enter_best(progress: &mut Progress, number: u32, better: bool)
+pub(crate) fn enter_best(progress: &mut Progress, number: u32, better: bool)
     requires { HasPlace progress.old.state }
     ensures { (d : Decomposition) → progress.new.state ≡ after d progress.old.state (best_events number better) }
 {
@@ -55,7 +55,7 @@ fn enter_best(progress: &mut Progress, number: u32, better: bool)
 }
 
 /// The node is closed by the leaf, where there is one.
-fn enter_closing(progress: &mut Progress, node: u32, front: u32, leaf: Option<Leaf>)
+pub(crate) fn enter_closing(progress: &mut Progress, node: u32, front: u32, leaf: Option<Leaf>)
     requires place { HasPlace progress.old.state }
     requires units { progress.old.state.units < number_limit }
     ensures { (d : Decomposition) → progress.new.state ≡ after d progress.old.state (closing_events node front leaf) }
@@ -66,7 +66,7 @@ fn enter_closing(progress: &mut Progress, node: u32, front: u32, leaf: Option<Le
 }
 
 /// The search stops, where its units are spent and it isn't done.
-fn enter_stop(progress: &mut Progress, spent: bool)
+pub(crate) fn enter_stop(progress: &mut Progress, spent: bool)
     requires { HasPlace progress.old.state }
     ensures { (d : Decomposition) → progress.new.state ≡ after d progress.old.state (stop_events spent) }
 {

@@ -1,8 +1,9 @@
 //! Marks of what is handed out.
-ghost use Rattle.std.specs.Prelude.{◌≡◌, ◌<◌, [], ◌∷◌, IfOk, Some, false, length, set};
+ghost use Rattle.std.specs.Prelude.{◌≡◌, ◌<◌, [], ◌∷◌, ◌++◌, IfErr, IfOk, Some, false, length, replicate, set};
 ghost use Rattle.bz_core.specs.Handing.{block_marked, unmarked};
+ghost use Rattle.bz_core.specs.Marking.{with_added};
 
-use bz_event::TaskName;
+use bz_event::{Event, How, TaskName};
 use bz_num::{Items, OutOfMemory};
 use std::alloc::Global;
 use std::marker::Model;
@@ -42,6 +43,14 @@ fn mark_block(blocks: &mut Vec<Items<bool>>, post: u32, block: u32, mark: bool)
     if let Some(of_post) = blocks.get_mut(post as usize) {
         put(alloc, of_post, (block as usize).saturating_sub(1), mark);
     }
+}
+
+/// Marks of so many blocks, none of which is handed out.
+fn no_blocks(alloc: Global, blocks: u32) -> Result<Items<bool>, OutOfMemory>
+    ensures { IfOk result (λ marks. marks ≡ replicate blocks false) }
+{
+    let marks = vec![in alloc; false; blocks as usize]?;
+    Ok(Items::from_vec(marks))
 }
 
 impl Marks {
@@ -100,6 +109,44 @@ impl Marks {
         ensures { self.new ≡ record self.old { blocks = block_marked self.old.blocks post block mark } }
     {
         mark_block(&mut self.blocks, post, block, mark);
+    }
+
+    /// Adds the two sides of a node, which aren't handed out. It takes memory.
+    fn add_sides(&mut self) -> Result<(), OutOfMemory>
+        ensures refused { IfErr result (λ _. self.new ≡ self.old) }
+        ensures added { IfOk result (λ _. self.new ≡ record self.old { nodes = self.old.nodes ++ false ∷ false ∷ [] }) }
+    {
+        self.nodes.reserve(2)?;
+        self.nodes.push_reserved(false);
+        self.nodes.push_reserved(false);
+        Ok(())
+    }
+
+    /// Adds a post with so many blocks, none of which is handed out. It takes memory.
+    fn add_post(&mut self, blocks: u32) -> Result<(), OutOfMemory>
+        ensures refused { IfErr result (λ _. self.new ≡ self.old) }
+        ensures added { IfOk result (λ _. self.new
+            ≡ record self.old { blocks = self.old.blocks ++ replicate blocks false ∷ [] }) }
+    {
+        let marks = no_blocks(*self.blocks.allocator(), blocks)?;
+        self.blocks.reserve(1)?;
+        self.blocks.push_reserved(marks);
+        Ok(())
+    }
+
+    /// Adds what the event adds, where each post has so many blocks: none of it is handed out. It takes memory.
+    pub(crate) fn add(&mut self, blocks: u32, event: &Event) -> Result<(), OutOfMemory>
+        ensures refused { IfErr result (λ _. self.new ≡ self.old) }
+        ensures added { IfOk result (λ _. self.new ≡ with_added blocks event.now self.old) }
+    {
+        match event {
+            Event::Post { .. } => self.add_post(blocks),
+            Event::Close {
+                how: How::Split { .. },
+                ..
+            } => self.add_sides(),
+            _ => Ok(()),
+        }
     }
 
     /// Takes the mark of a task off.
