@@ -1,0 +1,3 @@
+pub mod BestValues
+pub mod Coordinates
+pub mod Lowest
