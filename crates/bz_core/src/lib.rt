@@ -17,6 +17,7 @@ mod handouts;
 mod laws;
 mod outcomes;
 mod reading;
+mod reporting;
 mod roles;
 mod searches;
 mod stops;
