@@ -4,5 +4,12 @@
 #![tactic(auto)]
 
 mod laws;
+mod pages;
+mod places;
+mod points;
+mod reports;
+mod stops;
+mod values;
 
 pub use laws::{best_has_values, lowest_terms_are_one, values_are_coordinates};
+pub use reports::report;
