@@ -21,6 +21,7 @@ mod laws;
 mod outcomes;
 mod planning_nodes;
 mod reading;
+mod reporting;
 mod roles;
 mod searches;
 mod stops;

@@ -1,0 +1,4 @@
+pub mod LowestTerms
+pub mod Pages
+pub mod Reports
+pub mod Values
