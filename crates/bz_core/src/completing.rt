@@ -22,7 +22,7 @@ pub(crate) fn no_completion() -> Completion
 }
 
 /// The same leaf, where there is one. It takes memory.
-fn copy_leaf(alloc: Global, leaf: &Option<Leaf>) -> Result<Option<Leaf>, OutOfMemory>
+pub(crate) fn copy_leaf(alloc: Global, leaf: &Option<Leaf>) -> Result<Option<Leaf>, OutOfMemory>
     ensures { IfOk result (λ copy. copy ≡ leaf.now) }
 {
     match leaf {

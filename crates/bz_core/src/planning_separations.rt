@@ -1,16 +1,18 @@
 //! The events of a separation's answer, made before anything is changed. It takes memory for their lists.
 ghost use Rattle.std.specs.Prelude.{ℕ, ◌≡◌, ◌∷◌, [], IfOk, Some, cond};
 ghost use Rattle.std.specs.List.{slice_get};
+ghost use Rattle.bz_first.specs.Tests.{AllHold};
 ghost use Rattle.bz_model.specs.declared.BlockPart.{BlockPart};
+ghost use Rattle.bz_event.specs.declared.tasks.TaskName.TheVariants as name;
 ghost use Rattle.bz_rules.specs.Entries.{complete_events, cut_events, fill_events, is_last, separation_events};
-ghost use Rattle.bz_rules.specs.Rules.{IsBlock};
+ghost use Rattle.bz_rules.specs.Rules.{IsBlock, separation_answer_rules};
 ghost use Rattle.bz_rules.specs.Shapes.{FitsSplit, IsShapedPost};
 ghost use Rattle.bz_core.specs.Separations.{completion_events, planned_events};
 
 use crate::completing::{closing_leaf, no_completion};
 use crate::entering::{Completion, Planned};
 use bz_cut::Cut;
-use bz_event::{Event, SepAnswer};
+use bz_event::{Event, SepAnswer, Solved};
 use bz_history::Post;
 use bz_model::{BlockPart, Split};
 use bz_num::{Items, OutOfMemory};
@@ -122,8 +124,8 @@ fn plan_fill(
     })
 }
 
-/// What the answer of a separation of a block at a post makes, where `known` is the number that the pool has for its cut.
-pub(crate) fn plan_separation(
+/// What the answer of a separation of a block at the post makes.
+fn plan_at_post(
     alloc: Global,
     split: &Split,
     progress: &Progress,
@@ -143,4 +145,25 @@ pub(crate) fn plan_separation(
         SepAnswer::Cut { basis, cut } => plan_cut(alloc, number, basis, cut, known),
         SepAnswer::Fill { y } => plan_fill(alloc, split, progress, number, block, post, y),
     }
+}
+
+/// What the answer of the separation of a block at a posted point makes, where `known` is the number that the pool has for
+/// its cut.
+pub(crate) fn plan_separation(
+    alloc: Global,
+    split: &Split,
+    progress: &Progress,
+    number: u32,
+    block: u32,
+    s: &Solved<SepAnswer>,
+    known: Option<u32>,
+) -> Result<Planned, OutOfMemory>
+    requires fits { FitsSplit split.now progress.now.state }
+    requires task { s.now.task ≡ name.Sep number block }
+    requires rules { AllHold (separation_answer_rules split.now progress.now.state s.now) }
+    ensures { IfOk result (λ plan. planned_events number plan
+        ≡ separation_events split.now progress.now.state number block known s.now.answer) }
+{
+    let post = &progress.posts()[number as usize];
+    plan_at_post(alloc, split, progress, number, block, post, &s.answer, known)
 }
