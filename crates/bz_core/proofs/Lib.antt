@@ -4,6 +4,8 @@ pub mod Chosen
 pub mod CopiedTasks
 pub mod FloorsGiven
 pub mod GapsKept
+pub mod SeparationsAnswered
+pub mod SeparationsEntered
 pub mod SeparationsGiven
 pub mod Marking
 pub mod NodeFronts
