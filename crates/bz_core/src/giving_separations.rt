@@ -59,11 +59,7 @@ impl Search<'_> {
     /// task. A cut is appended, or named by the number that the pool has for it, also where the post has ended; the part of a
     /// block completes a live post, which may then become the best and close its node. Where the units are spent, the search
     /// stops. After `Late`, `Unfit` and want of memory the search is unchanged. It takes memory.
-    pub fn give_sep(
-        &mut self,
-        stamp: Stamp,
-        s: &Solved<SepAnswer>,
-    ) -> Result<Taken, OutOfMemory>
+    pub fn give_sep(&mut self, stamp: Stamp, s: &Solved<SepAnswer>) -> Result<Taken, OutOfMemory>
         requires stamp { stamp.count ≡ count_of stamp.worker self.old.history }
         requires promise { SolvesSomeSeparation self.old.split.model self.old.split.part s.now }
         ensures refused { IfErr result (λ _. self.new ≡ self.old) }

@@ -53,7 +53,7 @@ fn completion_of(
     requires block { IsBlock split.now block }
     ensures { IfOk result (λ completion. (number : ℕ) (y : BlockPart) (at : ℕ) → completion_events number completion
         ≡ cond (is_last block y at post.now)
-            (complete_events split.now progress.now.state number post.now.node post.now.front post.now.point post.now.leaf) []) }
+        (complete_events split.now progress.now.state number post.now.node post.now.front post.now.point post.now.leaf) []) }
 {
     if is_last_block(post, block) {
         return completion_of_post(alloc, split, progress, post);
@@ -73,7 +73,11 @@ fn cut_event(
 {
     let basis = basis.copy(alloc)?;
     match known {
-        Some(number) => Ok(Event::Again { post, basis, number }),
+        Some(number) => Ok(Event::Again {
+            post,
+            basis,
+            number,
+        }),
         None => {
             let cut = cut.copy(alloc)?;
             Ok(Event::Append { post, basis, cut })
@@ -165,5 +169,7 @@ pub(crate) fn plan_separation(
         ≡ separation_events split.now progress.now.state number block known s.now.answer) }
 {
     let post = &progress.posts()[number as usize];
-    plan_at_post(alloc, split, progress, number, block, post, &s.answer, known)
+    plan_at_post(
+        alloc, split, progress, number, block, post, &s.answer, known,
+    )
 }
