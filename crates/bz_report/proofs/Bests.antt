@@ -12,7 +12,6 @@ use Rattle.bz_event.specs.declared.events.Event.{Event}
 use Rattle.bz_event.specs.declared.events.Event.TheVariants as event
 use Rattle.bz_event.specs.Nodes.{FitsValue}
 use Rattle.bz_history.specs.declared.state.FallingRay.{FallingRay}
-use Rattle.bz_history.specs.declared.state.Outcome.{Outcome}
 use Rattle.bz_history.specs.declared.state.Outcome.TheVariants as outcome
 use Rattle.bz_history.specs.declared.state.Post.{Post}
 use Rattle.bz_history.specs.declared.state.Region.{Region}

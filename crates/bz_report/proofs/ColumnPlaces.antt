@@ -1,13 +1,13 @@
 -- The columns of a part rise, and so a column is found in its part alone.
-use Rattle.std.proofs.Common.{ℕ, zero, suc, ◌+◌, ◌<◌, ◌≤◌, ◌≡◌, ◌≢◌, refl, sym, ap, subst, ◌∙◌, arith, inl, inr, List, [], ◌∷◌, length, get_or, take, Result, Ok, Err}
+use Rattle.std.proofs.Common.{ℕ, zero, suc, ◌<◌, ◌≤◌, ◌≡◌, refl, sym, ap, subst, ◌∙◌, arith, inl, inr, List, [], ◌∷◌, length, get_or, take, Result, Ok, Err}
 use Rattle.std.specs.Prelude.{◌⊎◌}
 use Rattle.std.specs.List.Sorted.{IsBinarySearchResult}
 use Rattle.std.specs.Ordering.{nat_cmp}
 use Rattle.std.proofs.lemmas.Bool.{cases_lt}
 use Rattle.std.proofs.lemmas.List.{length-take}
 use Rattle.std.proofs.lemmas.List.Sorted.{searched}
-use Rattle.bz_model.specs.Parting.{blocks_of, column_at, columns_of, part_of, position_of, width_of}
-use Rattle.bz_model.proofs.Positions.{IsColumnAt, column_at_is, column_of_position_in, length-columns_of, part_within_blocks, position_within, position_within_part}
+use Rattle.bz_model.specs.Parting.{column_at, columns_of, part_of, position_of, width_of}
+use Rattle.bz_model.proofs.Positions.{IsColumnAt, column_at_is, column_of_position_in, length-columns_of, position_within, position_within_part}
 
 get_or_front : (xs : List ℕ) (n i : ℕ) → i < n → get_or (take n xs) i 0 ≡ get_or xs i 0
 get_or_front [] zero i l = absurd (omega (arith, l))

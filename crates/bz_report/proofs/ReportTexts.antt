@@ -1,6 +1,6 @@
 -- Texts that are added piece by piece are the texts of the report.
-use Rattle.std.proofs.Common.{ℕ, ◌≡◌, refl, sym, ap, subst, ◌∙◌, List, [], ◌∷◌, ◌++◌, Option, Some, None, append_assoc}
-use Rattle.std.specs.Prelude.{Result, Ok, Err, OnOk, codes}
+use Rattle.std.proofs.Common.{ℕ, ◌≡◌, sym, ap, subst, ◌∙◌, List, [], ◌∷◌, ◌++◌, Option, append_assoc}
+use Rattle.std.specs.Prelude.{Result, OnOk, codes}
 use Rattle.std.proofs.lemmas.Result.{on_ok_weaker}
 use Rattle.bz_model.specs.declared.Parts.{Parts}
 use Rattle.bz_model.specs.Splits.{Decomposition}

@@ -1,16 +1,14 @@
 -- The best parts are those of the state, and in each arm the text added is the one of the outcome.
 use Rattle.std.proofs.Common.{◌≡◌, ◌∙◌, ap, sym, subst, ℕ, List, ◌++◌}
-use Rattle.std.specs.Prelude.{Option, IfSome}
+use Rattle.std.specs.Prelude.{IfSome}
 use Rattle.std.specs.Option.{option_copied}
 use Rattle.bz_model.specs.Splits.{Decomposition}
 use Rattle.bz_event.specs.declared.events.Entry.{Entry}
-use Rattle.bz_history.specs.declared.state.FallingRay.{FallingRay}
 use Rattle.bz_history.specs.declared.state.Outcome.TheVariants as outcome
 use Rattle.bz_history.specs.Outcomes.{outcome_of}
-use Rattle.bz_history.specs.States.{State}
 use Rattle.bz_certify.specs.Finished.{HasPlaces}
 use Rattle.bz_core.specs.Searches.{Seen, now}
-use Rattle.bz_report.specs.Reports.{best_text, budget_line, infeasible_text, last_entry, last_line, optimal_text, report_text, unbounded_text}
+use Rattle.bz_report.specs.Reports.{best_text, budget_line, last_entry, last_line, optimal_text, report_text, unbounded_text}
 use Rattle.bz_report.specs.Values.{HasObjective, HasValues}
 use Rattle.bz_report.proofs.Bests.{best_is, best_values, optimal_objective, ray_places, spent_objective, wide_objective}
 use Rattle.bz_report.proofs.ReportTexts.{adds_as, adds_then, infeasible_is, optimal_is, spent_is, unbounded_is, wide_is}
